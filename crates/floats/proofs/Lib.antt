@@ -1,0 +1,13 @@
+pub mod Facts
+pub mod Values
+pub mod Sat
+pub mod Order
+pub mod Floor
+pub mod Pack
+pub mod Narrow
+pub mod Keys
+pub mod Mono
+pub mod Rules
+pub mod Sign
+pub mod Words
+pub mod Rem

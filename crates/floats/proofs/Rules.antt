@@ -1,0 +1,162 @@
+-- The rules of order for a caller, over the format and over all floats. Assumes nothing.
+use Prim.Native.Nat.{ℕ, zero, suc, _+_, _-_, _*_, _^_, _≤_, _<_}
+use native.Mathlib.Omega.{arith}
+use mathlib.Core.Path.{_≡_, refl, sym, ap, _∙_, subst}
+use mathlib.Core.Bool.{Bool, true, false, not, cond, _&&_, Bool·beq}
+use borrow.Author.Tests.{ltb-false}
+use lib.IntN.{ℤ, pos, negsuc}
+use lib.Dec.{T, ltb, leb, leb→le, le→leb, ltb→lt, lt→ltb}
+use lib.Ieee.{Float, nan, inf, fin, Format, binary32, up, down, round, sum, add, sub, mul, div, neg, lt, le, eq, fits, isNan, ofBits}
+use lib.Ieee.Fits.{add-fits, mul-fits, div-fits, neg-fits, round-fits, down-pos}
+use lib.Ieee.Scale.{finite}
+use Rattle.floats.specs.Choose.{clamp}
+use Rattle.floats.specs.Convert.{convert}
+use lib.Ieee.Bits.{is-true}
+use Rattle.floats.proofs.Facts.{eq-self}
+use Rattle.floats.proofs.Floor.{round-number, cond-number}
+use Rattle.floats.proofs.Keys.{over, key, le-key, lt-key, key-neg}
+use Rattle.floats.proofs.Mono.{add-up, add-swap, mul-up, div-up, round-kz, kz-mono, le→signed, plus, minus}
+
+-- what is compared with success is no NaN
+le-left : (x y : Float) → T (le x y) → T (not (isNan x))
+unfolding le lt eq isNan
+le-left nan y h = absurd h
+le-left (inf s) y h = tt
+le-left (fin s m e) y h = tt
+
+le-right : (x y : Float) → T (le x y) → T (not (isNan y))
+unfolding le lt eq isNan
+le-right nan nan h = absurd h
+le-right (inf s) nan h = absurd h
+le-right (fin s m e) nan h = absurd h
+le-right x (inf s) h = tt
+le-right x (fin s m e) h = tt
+
+module _ (f : Format) where
+  pub le→key : (x y : Float) → T (fits f x) → T (fits f y) → T (le x y) → key f x ≤ key f y
+  le→key x y p q h = leb→le (key f x) (key f y) (subst T (le-key f x y p q (le-left x y h) (le-right x y h)) h)
+
+  pub key→le : (x y : Float) → T (fits f x) → T (fits f y) → T (not (isNan x)) → T (not (isNan y)) → key f x ≤ key f y → T (le x y)
+  key→le x y p q u v h = subst T (sym (le-key f x y p q u v)) (le→leb (key f x) (key f y) h)
+
+  pub le-trans : (x y z : Float) → T (fits f x) → T (fits f y) → T (fits f z) → T (le x y) → T (le y z) → T (le x z)
+  le-trans x y z p q r h k =
+      let a = le→key x y p q h in
+      let b = le→key y z q r k in
+      key→le x z p r (le-left x y h) (le-right y z k) (omega arith)
+
+  -- a test that failed says the other order, where neither is a NaN
+  pub not-lt→le : (x y : Float) → T (fits f x) → T (fits f y) → T (not (isNan x)) → T (not (isNan y)) → lt x y ≡ false → T (le y x)
+  not-lt→le x y p q u v h = key→le y x q p v u (ltb-false (key f x) (key f y) (sym (lt-key f x y p q u v) ∙ h))
+
+  finite-number : (x : Float) → T (finite x) → T (not (isNan x))
+  unfolding isNan
+  finite-number nan h = h
+  finite-number (inf s) h = tt
+  finite-number (fin s m e) h = tt
+
+  sum-number : (s : Bool) (a : ℕ) (t : Bool) (b c : ℕ) → T (not (isNan (sum f s a t b c)))
+  unfolding sum
+  sum-number s a t b c =
+      cond-number (Bool·beq s t) (round f s (a + b) c) (cond (ltb a b) (round f t (b - a) c) (round f (s && ltb b a) (a - b) c)) (round-number f s (a + b) c)
+      (cond-number (ltb a b) (round f t (b - a) c) (round f (s && ltb b a) (a - b) c) (round-number f t (b - a) c) (round-number f (s && ltb b a) (a - b) c))
+
+  add-number : (x y : Float) → T (finite x) → T (finite y) → T (not (isNan (add f x y)))
+  unfolding add
+  add-number nan y u v = absurd u
+  add-number (inf s) y u v = absurd u
+  add-number (fin s m e) nan u v = absurd v
+  add-number (fin s m e) (inf t) u v = absurd v
+  add-number (fin s m e) (fin t n d) u v = sum-number s (m * up e * down d) t (n * up d * down e) (down e * down d)
+
+  pub add-mono : (x x' y : Float) → T (finite x) → T (finite x') → T (finite y) → T (le x x') → T (le (add f x y) (add f x' y))
+  add-mono x x' y u u' v h = key→le (add f x y) (add f x' y) (add-fits f x y) (add-fits f x' y) (add-number x y u v) (add-number x' y u' v) (go x x' y u u' v h)
+    where
+      go : (x x' y : Float) → T (finite x) → T (finite x') → T (finite y) → T (le x x') → key f (add f x y) ≤ key f (add f x' y)
+      go (fin s m e) (fin t n d) (fin w k g) u u' v h = add-up f s m e t n d w k g h
+      go nan x' y u u' v h = absurd u
+      go (inf s) x' y u u' v h = absurd u
+      go (fin s m e) nan y u u' v h = absurd u'
+      go (fin s m e) (inf t) y u u' v h = absurd u'
+      go (fin s m e) (fin t n d) nan u u' v h = absurd v
+      go (fin s m e) (fin t n d) (inf w) u u' v h = absurd v
+
+  -- only a finite number's difference from itself is a number
+  pub self-apart : (x : Float) → eq (sub f x x) (sub f x x) ≡ finite x
+  unfolding sub add neg isNan
+  self-apart nan = eq-self nan
+  self-apart (inf true) = eq-self nan
+  self-apart (inf false) = eq-self nan
+  self-apart (fin s m e) = eq-self (sum f s (m * up e * down e) (not s) (m * up e * down e) (down e * down e)) ∙ is-true _ (sum-number s (m * up e * down e) (not s) (m * up e * down e) (down e * down e))
+
+  neg-finite : (x : Float) → T (finite x) → T (finite (neg x))
+  unfolding neg
+  neg-finite nan h = h
+  neg-finite (inf s) h = h
+  neg-finite (fin s m e) h = tt
+
+  pub neg-anti : (x y : Float) → T (fits f x) → T (fits f y) → T (finite x) → T (finite y) → T (le x y) → T (le (neg y) (neg x))
+  neg-anti x y p q u v h =
+      key→le (neg y) (neg x) (neg-fits f y q) (neg-fits f x p) (finite-number (neg y) (neg-finite y v)) (finite-number (neg x) (neg-finite x u))
+      (omega (arith, key-neg f x p (finite-number x u), key-neg f y q (finite-number y v), le→key x y p q h))
+
+  pub add-mono-right : (x y y' : Float) → T (finite x) → T (finite y) → T (finite y') → T (le y y') → T (le (add f x y) (add f x y'))
+  add-mono-right x y y' u v v' h = key→le (add f x y) (add f x y') (add-fits f x y) (add-fits f x y') (add-number x y u v) (add-number x y' u v') (go x y y' u v v' h)
+    where
+      go : (x y y' : Float) → T (finite x) → T (finite y) → T (finite y') → T (le y y') → key f (add f x y) ≤ key f (add f x y')
+      go (fin w k g) (fin s m e) (fin t n d) u v v' h = rw (add-swap f w k g s m e, add-swap f w k g t n d) (add-up f s m e t n d w k g h)
+      go nan y y' u v v' h = absurd u
+      go (inf s) y y' u v v' h = absurd u
+      go (fin s m e) nan y' u v v' h = absurd v
+      go (fin s m e) (inf t) y' u v v' h = absurd v
+      go (fin s m e) (fin t n d) nan u v v' h = absurd v'
+      go (fin s m e) (fin t n d) (inf w) u v v' h = absurd v'
+
+  pub sub-mono : (x x' y : Float) → T (finite x) → T (finite x') → T (finite y) → T (le x x') → T (le (sub f x y) (sub f x' y))
+  unfolding sub
+  sub-mono x x' y u u' v h = add-mono x x' (neg y) u u' (neg-finite y v) h
+
+  pub sub-anti : (x y y' : Float) → T (fits f y) → T (fits f y') → T (finite x) → T (finite y) → T (finite y') → T (le y y') → T (le (sub f x y') (sub f x y))
+  unfolding sub
+  sub-anti x y y' p q u v v' h = add-mono-right x (neg y') (neg y) u (neg-finite y' v') (neg-finite y v) (neg-anti y y' p q v v' h)
+
+  -- what lies between two finite numbers is one
+  pub between-finite : (lo x hi : Float) → T (finite lo) → T (finite hi) → T (le lo x) → T (le x hi) → T (finite x)
+  unfolding le lt eq
+  between-finite nan x hi u v h k = absurd u
+  between-finite (inf s) x hi u v h k = absurd u
+  between-finite (fin s m e) nan hi u v h k = absurd h
+  between-finite (fin s m e) (inf true) hi u v h k = absurd h
+  between-finite (fin s m e) (inf false) nan u v h k = absurd v
+  between-finite (fin s m e) (inf false) (inf t) u v h k = absurd v
+  between-finite (fin s m e) (inf false) (fin t n d) u v h k = absurd k
+  between-finite (fin s m e) (fin t n d) hi u v h k = tt
+
+  -- rounding to a format keeps the order
+  pub convert-mono : (x y : Float) → T (finite x) → T (finite y) → T (le x y) → T (le (convert f x) (convert f y))
+  unfolding convert
+  convert-mono nan y u v h = absurd u
+  convert-mono (inf s) y u v h = absurd u
+  convert-mono (fin s m e) nan u v h = absurd v
+  convert-mono (fin s m e) (inf t) u v h = absurd v
+  convert-mono (fin s m e) (fin t n d) u v h =
+      key→le (round f s (m * up e) (down e)) (round f t (n * up d) (down d)) (round-fits f s (m * up e) (down e)) (round-fits f t (n * up d) (down d)) (round-number f s (m * up e) (down e)) (round-number f t (n * up d) (down d))
+      (rw (round-kz f s (m * up e) (down e) (down-pos e), round-kz f t (n * up d) (down d) (down-pos d))
+      (kz-mono f (plus s (m * up e)) (minus s (m * up e)) (down e) (plus t (n * up d)) (minus t (n * up d)) (down d) (down-pos e) (down-pos d) (le→signed s m e t n d h)))
+
+-- ---- an example: a number clamped to [0, 1] is at most 1 and at least 0
+abbrev zero' : Float
+zero' = fin false 0 (pos 0)
+
+abbrev one' : Float
+one' = fin false 1 (pos 0)
+
+pub clamp-unit : (x : Float) → T (fits binary32 x) → T (not (isNan x)) → T (le zero' (clamp x zero' one')) × T (le (clamp x zero' one') one')
+unfolding clamp lt le fits isNan
+clamp-unit x p u = go (lt x zero') (lt one' x) refl refl
+  where
+    go : (a b : Bool) → lt x zero' ≡ a → lt one' x ≡ b
+        → T (le zero' (cond (lt one' (cond a zero' x)) one' (cond a zero' x))) × T (le (cond (lt one' (cond a zero' x)) one' (cond a zero' x)) one')
+    go true b h k = (tt, tt)
+    go false true h k = rw k (tt, tt)
+    go false false h k = rw k (not-lt→le binary32 x zero' p tt u tt h, not-lt→le binary32 one' x tt p tt u k)

@@ -1,0 +1,10 @@
+use lib.Ieee.{binary32}
+use Rattle.floats.proofs.Rules.{self-apart}
+use Rattle.floats.proofs.choose.is_finite32.Statement.{statement}
+use Rattle.floats.proofs.choose.is_finite32.Tie as tie
+
+returns : tie.Need-returns
+returns c = self-apart binary32 (c .args .x)
+
+pub is-finite32-spec : {M : Type 1} → statement M
+is-finite32-spec = tie.close (tie.spec returns)
