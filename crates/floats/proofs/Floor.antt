@@ -1,4 +1,4 @@
--- `floor` and `ceil` of the paths that the code takes, over the format. Assumes nothing.
+-- `floor` and `ceil` of the paths that the code takes, over the format.
 use Prim.Native.Nat.{ℕ, zero, suc, _+_, _-_, _*_, _/_, _%_, _^_, _≤_, _<_, min}
 use native.Mathlib.Nat.{le-refl, le-trans, le-of-lt, le-of-eq, lt-of-lt-of-le, lt-of-le-of-lt, lt-irrefl, mul-one, one-mul, le-of-suc-le-suc, suc-mul, div-le-self, mul-pos, mul-comm, mul-right-comm, mul-le-mul-left, le-mul-of-pos-right, div-lt-iff-lt-mul, div-add-mod', mod-lt, div-eq-of-lt-le, add-mul, zero-mul, div-one, mul-div-cancel, eq-of-mul-eq-mul-right}
 use native.Mathlib.Omega.{arith}
@@ -38,7 +38,7 @@ no-rest : (a d : ℕ) → a ≤ a / d * d → a ≡ a / d * d
 no-rest a d h = omega (arith, div-add-mod' a d)
 
 -- ---- a whole number is its own floor
-kept : (f : Format) (s : Bool) (m : ℕ) (e : ℤ) (q : ℕ) → T (fits f (fin s m e)) → m * up e ≡ q * down e → round f s q 1 ≡ fin s m e
+pub kept : (f : Format) (s : Bool) (m : ℕ) (e : ℤ) (q : ℕ) → T (fits f (fin s m e)) → m * up e ≡ q * down e → round f s q 1 ≡ fin s m e
 kept f s m e q t h = round-same f s q 1 (m * up e) (down e) (ltb→lt 0 1 tt) (down-pos e) (sym h ∙ sym (mul-one (m * up e))) ∙ own-round f s m e t
 
 pub floor-of-whole : (f : Format) (s : Bool) (m : ℕ) (e : ℤ) (q : ℕ) → T (fits f (fin s m e)) → m * up e ≡ q * down e → fin s m e ≡ floor f (fin s m e)
@@ -159,7 +159,7 @@ ceil-is f (fin true m e) = neg-round f false (cut m e) 1
 ceil-is f (fin false m e) = neg-round f true (lift m e) 1
 
 -- ---- one floor for both formats
-lift-le : (a d : ℕ) → 0 < d → (a + (d - 1)) / d ≤ a
+pub lift-le : (a d : ℕ) → 0 < d → (a + (d - 1)) / d ≤ a
 lift-le a d D = le-of-suc-le-suc (div-lt-iff-lt-mul D .1 (let g : a ≤ a * d = le-mul-of-pos-right a D in omega (arith, suc-mul a d)))
 
 whole-both : (s : Bool) (n : ℕ) → n < 2 ^ 24 → round binary64 s n 1 ≡ round binary32 s n 1

@@ -1,5 +1,5 @@
 -- The order of floats as the order of natural numbers, over the format: `key` maps the values that a format holds, the infinities too, into ℕ, in order, and both zeros to one number.
--- So any fact of order among floats is one for `omega`. Assumes nothing.
+-- So any fact of order among floats is one for `omega`.
 use Prim.Native.Nat.{ℕ, zero, suc, _+_, _-_, _*_, _/_, _^_, _≤_, _<_}
 use native.Mathlib.Nat.{mul-comm, mul-assoc, mul-right-comm, mul-pos, mul-le-mul-right, le-of-mul-le-mul-right, lt-of-mul-lt-mul-right, lt-of-le-of-lt, lt-of-lt-of-le, le-of-eq, le-antisymm, le-trans, lt-of-not-le, le-of-suc-le-suc, eq-of-mul-eq-mul-right, mul-lt-mul-of-pos-right, zero-mul, mul-div-cancel, add-mul}
 use native.Mathlib.Omega.{arith}
@@ -10,17 +10,15 @@ use lib.Dec.{T, ltb, leb, eqb, ltb→lt, lt→ltb, leb→le, le→leb, eqb→eq,
 use lib.Pow.{pow-add, pow-pos}
 use lib.Ieee.{Float, nan, inf, fin, Format, prec, emax, low, up, down, lt, le, eq, neg, fits, isNan, below, level}
 use lib.Ieee.Fits.{up-pos, down-pos, eq→eqb, and-i, and-l, and-r}
+use Rattle.floats.specs.Convert.{unitsIn}
 use Rattle.floats.proofs.Values.{fine, steps, steps-are}
 
 -- ---- the key
 abbrev pub over : Format → ℕ
 over f = 2 ^ (low f + suc (emax f))
 
--- the magnitude in units of the smallest value
 abbrev pub mag : Format → Float → ℕ
-mag f nan = 0
-mag f (inf s) = over f
-mag f (fin s m e) = m * up e * 2 ^ low f / down e
+mag = unitsIn
 
 abbrev pub side : ℕ → Bool → ℕ → ℕ
 side o s a = cond s (o - a) (o + a)
@@ -34,7 +32,7 @@ module _ (f : Format) (s : Bool) (m : ℕ) (e : ℤ) (t : T (fits f (fin s m e))
   exact : m * up e * 2 ^ low f ≡ m * 2 ^ steps f e * down e
   exact = mul-assoc m (up e) (2 ^ low f) ∙ ap (λ (z : ℕ). m * z) (steps-are f e (fine f s m e t .deep)) ∙ sym (mul-assoc m (2 ^ steps f e) (down e))
 
-  mag-is : m * up e * 2 ^ low f / down e ≡ m * 2 ^ steps f e
+  pub mag-is : m * up e * 2 ^ low f / down e ≡ m * 2 ^ steps f e
   mag-is = ap (λ (z : ℕ). z / down e) exact ∙ mul-div-cancel (m * 2 ^ steps f e) (down-pos e)
 
   -- the magnitude, times the denominator

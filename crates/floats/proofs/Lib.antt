@@ -11,3 +11,13 @@ pub mod Rules
 pub mod Sign
 pub mod Words
 pub mod Rem
+pub mod Integral
+pub mod Rising
+pub mod Choosing
+pub mod Close
+pub mod Nearest
+pub mod Mag
+pub mod Bounds
+pub mod Held
+pub mod Euclid
+pub mod Casting

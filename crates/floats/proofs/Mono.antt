@@ -1,4 +1,4 @@
--- Rounding keeps the order of signed fractions, over the format, so each operation goes one way in each operand. A signed fraction is (P - N) / c. Assumes nothing.
+-- Rounding keeps the order of signed fractions, over the format, so each operation goes one way in each operand. A signed fraction is (P - N) / c.
 use Prim.Native.Nat.{ℕ, zero, suc, _+_, _-_, _*_, _/_, _^_, _≤_, _<_}
 use native.Mathlib.Nat.{mul-comm, mul-assoc, mul-left-comm, mul-right-comm, mul-pos, mul-one, one-mul, add-comm, add-mul, mul-add, mul-le-mul-right, mul-lt-mul-of-pos-right, zero-mul, zero-lt-suc, add-sub-of-le}
 use native.Mathlib.Omega.{arith}
@@ -53,7 +53,7 @@ zero-fits : (f : Format) → T (fits f (fin false 0 (pos 0)))
 unfolding fits
 zero-fits f = tt
 
-size'-zero : (f : Format) (c : ℕ) → 0 < c → size' f 0 c ≡ 0
+pub size'-zero : (f : Format) (c : ℕ) → 0 < c → size' f 0 c ≡ 0
 size'-zero f c C = ap (mag f) (round-same f false 0 c (0 * 2 ^ 0) 1 C (zero-lt-suc 0) (zero-mul 1 ∙ sym (zero-mul c)) ∙ own-round f false 0 (pos 0) (zero-fits f)) ∙ ap (λ (z : ℕ). z / 1) (zero-mul (2 ^ low f))
 
 -- ---- a signed fraction, rounded, by its key
@@ -151,11 +151,11 @@ signed-le true A true B h = let g = le-of (ltb B A) (ltb→lt B A) h in omega ar
     le-of true k t = let g = k tt in omega arith
     le-of false k t = let g = eqb→eq A B (and-l (eqb A B) true t) in omega arith
 
-plus-mul : (s : Bool) (a d : ℕ) → plus s (a * d) ≡ plus s a * d
+pub plus-mul : (s : Bool) (a d : ℕ) → plus s (a * d) ≡ plus s a * d
 plus-mul true a d = sym (zero-mul d)
 plus-mul false a d = refl
 
-minus-mul : (s : Bool) (a d : ℕ) → minus s (a * d) ≡ minus s a * d
+pub minus-mul : (s : Bool) (a d : ℕ) → minus s (a * d) ≡ minus s a * d
 minus-mul true a d = refl
 minus-mul false a d = sym (zero-mul d)
 

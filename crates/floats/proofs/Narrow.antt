@@ -1,4 +1,4 @@
--- From a wider format's pattern to the rounded value. Assumes nothing.
+-- From a wider format's pattern to the rounded value.
 use Prim.Native.Nat.{ℕ, zero, suc, _+_, _-_, _*_, _/_, _%_, _^_, _≤_, _<_, min, compare, Ordering, Ordering·lt, Ordering·eq, Ordering·gt}
 use native.Mathlib.Nat.{le-refl, le-trans, le-of-lt, le-of-eq, lt-of-lt-of-le, lt-of-le-of-lt, lt-irrefl, mul-one, one-mul, zero-mul, mul-pos, mul-comm, mul-assoc, mul-right-comm, mul-left-comm, mul-le-mul-right, mul-lt-mul-of-pos-right, le-div-iff-mul-le, div-lt-iff-lt-mul, div-eq-of-lt, div-one, mul-le-mul-left, div-mul-le-self, div-le-self, mod-le, div-add-mod', mod-eq-of-lt, mod-eq-sub-mod, mod-lt, mod-mod-of-dvd, dvd-mul-right}
 use native.Mathlib.Omega.{arith}

@@ -1,4 +1,4 @@
--- The bit pattern of a rounded fraction, over the format: k dropped digits and the q that is kept give k * hid + q, or an infinity's pattern where that is less. Assumes nothing.
+-- The bit pattern of a rounded fraction, over the format: k dropped digits and the q that is kept give k * hid + q, or an infinity's pattern where that is less.
 use Prim.Native.Nat.{ℕ, zero, suc, _+_, _-_, _*_, _/_, _%_, _^_, _≤_, _<_, min, compare, zero-le}
 use native.Mathlib.Nat.{le-refl, le-trans, le-of-lt, le-of-eq, lt-of-lt-of-le, lt-of-le-of-lt, lt-of-not-le, not-le-of-lt, lt-irrefl, le-of-suc-le-suc, eq-or-lt-of-le, eq-zero-or-pos, mul-one, one-mul, zero-mul, zero-add, mul-pos, mul-comm, mul-assoc, mul-right-comm, mul-le-mul-right, mul-lt-mul-of-pos-right, mul-div-cancel, add-mul, suc-mul, div-div-eq-div-mul, pow-succ', le-div-iff-mul-le}
 use native.Mathlib.Omega.{arith}
@@ -29,7 +29,7 @@ size-gt n j h = lt-of-not-le (λ (g : size n ≤ j). not-le-of-lt (lt-of-lt-of-l
 pub size-is : (n j : ℕ) → 2 ^ j ≤ n → n < 2 ^ suc j → size n ≡ suc j
 size-is n j a b = omega (arith, size-gt n j a, size-le n (suc j) b)
 
-twice : (f : Format) → 2 ^ prec f ≡ 2 * hid f
+pub twice : (f : Format) → 2 ^ prec f ≡ 2 * hid f
 twice binary32 = refl
 twice binary64 = refl
 
@@ -76,14 +76,14 @@ pattern-full f k n e =
     double : (x : ℕ) → 0 < x → x < 2 * x
     double x h = omega arith
 
-pattern : (f : Format) (k q : ℕ) (v : Float) → q ≤ 2 ^ prec f → (0 < k → hid f ≤ q) → HasValue v false (q * 2 ^ k) (2 ^ low f) → toBits f v ≡ k * hid f + q
+pub pattern : (f : Format) (k q : ℕ) (v : Float) → q ≤ 2 ^ prec f → (0 < k → hid f ≤ q) → HasValue v false (q * 2 ^ k) (2 ^ low f) → toBits f v ≡ k * hid f + q
 pattern f k q v h g p = toBits-at f v (q * 2 ^ k) p ∙ elim (eq-or-lt-of-le h) [
   | inl e ↦ pattern-full f k (q * 2 ^ k) (ap (λ (z : ℕ). z * 2 ^ k) e) ∙ ap (λ (z : ℕ). k * hid f + z) (sym e)
   | inr l ↦ pattern-few f k q (few f k q l g)
 ]
 
 -- ---- below an infinity's pattern exactly where the value is below the overflow
-limit : (f : Format) → low f + suc (emax f) ≡ 2 * emax f + (prec f - 1)
+pub limit : (f : Format) → low f + suc (emax f) ≡ 2 * emax f + (prec f - 1)
 limit binary32 = refl
 limit binary64 = refl
 
@@ -145,7 +145,7 @@ units-fit f q k h l =
     subst (λ (t : Bool). T (fits f (cond t (odd (suc (prec f)) false q k (low f)) (inf false)))) (sym (lt-ltb (q * 2 ^ k) (2 ^ (low f + suc (emax f))) l))
     (odd-fits f (suc (prec f)) false q k (lt-of-le-of-lt h (pow-lt (le-refl (suc (prec f))))) h l)
 
-units-over : (f : Format) (s : Bool) (q k : ℕ) → 2 ^ (low f + suc (emax f)) ≤ q * 2 ^ k → units f s q k ≡ inf s
+pub units-over : (f : Format) (s : Bool) (q k : ℕ) → 2 ^ (low f + suc (emax f)) ≤ q * 2 ^ k → units f s q k ≡ inf s
 unfolding units
 units-over f s q k h = ap (λ (t : Bool). cond t (odd (suc (prec f)) s q k (low f)) (inf s)) (le-ltb (q * 2 ^ k) (2 ^ (low f + suc (emax f))) h)
 

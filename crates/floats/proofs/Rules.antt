@@ -1,15 +1,14 @@
--- The rules of order for a caller, over the format and over all floats. Assumes nothing.
+-- The rules of order for a caller, over the format and over all floats.
 use Prim.Native.Nat.{ℕ, zero, suc, _+_, _-_, _*_, _^_, _≤_, _<_}
 use native.Mathlib.Omega.{arith}
 use mathlib.Core.Path.{_≡_, refl, sym, ap, _∙_, subst}
-use mathlib.Core.Bool.{Bool, true, false, not, cond, _&&_, Bool·beq}
+use mathlib.Core.Bool.{Bool, true, false, not, cond, _&&_, _||_, Bool·beq}
 use borrow.Author.Tests.{ltb-false}
 use lib.IntN.{ℤ, pos, negsuc}
 use lib.Dec.{T, ltb, leb, leb→le, le→leb, ltb→lt, lt→ltb}
 use lib.Ieee.{Float, nan, inf, fin, Format, binary32, up, down, round, sum, add, sub, mul, div, neg, lt, le, eq, fits, isNan, ofBits}
 use lib.Ieee.Fits.{add-fits, mul-fits, div-fits, neg-fits, round-fits, down-pos}
 use lib.Ieee.Scale.{finite}
-use Rattle.floats.specs.Choose.{clamp}
 use Rattle.floats.specs.Convert.{convert}
 use lib.Ieee.Bits.{is-true}
 use Rattle.floats.proofs.Facts.{eq-self}
@@ -18,19 +17,23 @@ use Rattle.floats.proofs.Keys.{over, key, le-key, lt-key, key-neg}
 use Rattle.floats.proofs.Mono.{add-up, add-swap, mul-up, div-up, round-kz, kz-mono, le→signed, plus, minus}
 
 -- what is compared with success is no NaN
-le-left : (x y : Float) → T (le x y) → T (not (isNan x))
+pub le-left : (x y : Float) → T (le x y) → T (not (isNan x))
 unfolding le lt eq isNan
 le-left nan y h = absurd h
 le-left (inf s) y h = tt
 le-left (fin s m e) y h = tt
 
-le-right : (x y : Float) → T (le x y) → T (not (isNan y))
+pub le-right : (x y : Float) → T (le x y) → T (not (isNan y))
 unfolding le lt eq isNan
 le-right nan nan h = absurd h
 le-right (inf s) nan h = absurd h
 le-right (fin s m e) nan h = absurd h
 le-right x (inf s) h = tt
 le-right x (fin s m e) h = tt
+
+pub lt→le : (x y : Float) → lt x y ≡ true → T (le x y)
+unfolding le
+lt→le x y h = subst (λ (b : Bool). T (b || eq x y)) (sym h) tt
 
 module _ (f : Format) where
   pub le→key : (x y : Float) → T (fits f x) → T (fits f y) → T (le x y) → key f x ≤ key f y
@@ -49,7 +52,7 @@ module _ (f : Format) where
   pub not-lt→le : (x y : Float) → T (fits f x) → T (fits f y) → T (not (isNan x)) → T (not (isNan y)) → lt x y ≡ false → T (le y x)
   not-lt→le x y p q u v h = key→le y x q p v u (ltb-false (key f x) (key f y) (sym (lt-key f x y p q u v) ∙ h))
 
-  finite-number : (x : Float) → T (finite x) → T (not (isNan x))
+  pub finite-number : (x : Float) → T (finite x) → T (not (isNan x))
   unfolding isNan
   finite-number nan h = h
   finite-number (inf s) h = tt
@@ -61,7 +64,7 @@ module _ (f : Format) where
       cond-number (Bool·beq s t) (round f s (a + b) c) (cond (ltb a b) (round f t (b - a) c) (round f (s && ltb b a) (a - b) c)) (round-number f s (a + b) c)
       (cond-number (ltb a b) (round f t (b - a) c) (round f (s && ltb b a) (a - b) c) (round-number f t (b - a) c) (round-number f (s && ltb b a) (a - b) c))
 
-  add-number : (x y : Float) → T (finite x) → T (finite y) → T (not (isNan (add f x y)))
+  pub add-number : (x y : Float) → T (finite x) → T (finite y) → T (not (isNan (add f x y)))
   unfolding add
   add-number nan y u v = absurd u
   add-number (inf s) y u v = absurd u
@@ -89,7 +92,7 @@ module _ (f : Format) where
   self-apart (inf false) = eq-self nan
   self-apart (fin s m e) = eq-self (sum f s (m * up e * down e) (not s) (m * up e * down e) (down e * down e)) ∙ is-true _ (sum-number s (m * up e * down e) (not s) (m * up e * down e) (down e * down e))
 
-  neg-finite : (x : Float) → T (finite x) → T (finite (neg x))
+  pub neg-finite : (x : Float) → T (finite x) → T (finite (neg x))
   unfolding neg
   neg-finite nan h = h
   neg-finite (inf s) h = h
@@ -143,20 +146,3 @@ module _ (f : Format) where
       key→le (round f s (m * up e) (down e)) (round f t (n * up d) (down d)) (round-fits f s (m * up e) (down e)) (round-fits f t (n * up d) (down d)) (round-number f s (m * up e) (down e)) (round-number f t (n * up d) (down d))
       (rw (round-kz f s (m * up e) (down e) (down-pos e), round-kz f t (n * up d) (down d) (down-pos d))
       (kz-mono f (plus s (m * up e)) (minus s (m * up e)) (down e) (plus t (n * up d)) (minus t (n * up d)) (down d) (down-pos e) (down-pos d) (le→signed s m e t n d h)))
-
--- ---- an example: a number clamped to [0, 1] is at most 1 and at least 0
-abbrev zero' : Float
-zero' = fin false 0 (pos 0)
-
-abbrev one' : Float
-one' = fin false 1 (pos 0)
-
-pub clamp-unit : (x : Float) → T (fits binary32 x) → T (not (isNan x)) → T (le zero' (clamp x zero' one')) × T (le (clamp x zero' one') one')
-unfolding clamp lt le fits isNan
-clamp-unit x p u = go (lt x zero') (lt one' x) refl refl
-  where
-    go : (a b : Bool) → lt x zero' ≡ a → lt one' x ≡ b
-        → T (le zero' (cond (lt one' (cond a zero' x)) one' (cond a zero' x))) × T (le (cond (lt one' (cond a zero' x)) one' (cond a zero' x)) one')
-    go true b h k = (tt, tt)
-    go false true h k = rw k (tt, tt)
-    go false false h k = rw k (not-lt→le binary32 x zero' p tt u tt h, not-lt→le binary32 one' x tt p tt u k)

@@ -1,4 +1,4 @@
--- Over the format: a value that fits is known by its sign and its fraction, `round` leaves it, and a sign goes through `round`. Assumes nothing.
+-- Over the format: a value that fits is known by its sign and its fraction, `round` leaves it, and a sign goes through `round`.
 use Prim.Native.Nat.{ℕ, zero, suc, _+_, _-_, _*_, _/_, _%_, _^_, _≤_, _<_, compare}
 use native.Mathlib.Nat.{le-of-suc-le-suc, lt-of-not-le, lt-irrefl, lt-of-lt-of-le, le-trans, le-of-eq, mul-one, one-mul, zero-mul, mul-comm, mul-assoc, mul-left-comm, mul-right-comm, mul-pos, eq-of-mul-eq-mul-right, mul-lt-mul-of-pos-right, mul-le-mul-right, lt-of-mul-lt-mul-right, zero-lt-suc}
 use native.Mathlib.Omega.{arith}
