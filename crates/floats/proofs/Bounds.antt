@@ -1,18 +1,16 @@
 -- The bounds of `Mag` through each operation, over the format.
-use Prim.Native.Nat.{ℕ, zero, suc, _+_, _-_, _*_, _/_, _^_, _≤_, _<_}
-use native.Mathlib.Nat.{le-trans, le-of-eq, mul-comm, mul-assoc, mul-right-comm, mul-mul-mul-comm, mul-one, zero-mul, mul-zero, add-mul, mul-pos, mul-le-mul, mul-le-mul-right, mul-le-mul-left, le-of-mul-le-mul-right, zero-lt-suc}
+use Prim.Native.Nat.{ℕ, zero, suc, _+_, _-_, _*_, _^_, _≤_, _<_}
+use native.Mathlib.Nat.{le-trans, le-of-eq, mul-comm, mul-assoc, mul-mul-mul-comm, zero-mul, add-mul, mul-pos, mul-le-mul, mul-le-mul-right}
 use native.Mathlib.Omega.{arith}
-use mathlib.Core.Path.{_≡_, refl, sym, ap, _∙_}
-use mathlib.Core.Bool.{Bool, true, false, cond, not, _&&_, Bool·beq, true≢false}
+use mathlib.Core.Path.{_≡_, ap, _∙_}
+use mathlib.Core.Bool.{Bool, true, false, cond, _&&_, Bool·beq}
 use lib.IntN.{ℤ, pos}
-use lib.Dec.{T, ltb, eqb, eqb→eq}
+use lib.Dec.{ltb, eqb, eqb→eq}
 use lib.Pow.{pow-pos}
 use lib.Ieee.{Float, nan, inf, fin, Format, prec, up, down, round, add, sub, neg, sum, mul, div, lt, ofInt, isNan, unlike}
-use lib.Ieee.Fits.{up-pos, down-pos}
-use lib.Ieee.Exact.{HasValue}
-use borrow.Author.Tests.{ltb-false}
+use lib.Ieee.Fits.{down-pos}
 use denote.Floats.{passes}
-use Rattle.floats.specs.Choose.{max, min, clamp, abs}
+use Rattle.floats.specs.Choose.{max, min, abs}
 use Rattle.floats.specs.Convert.{convert}
 use Rattle.lists.specs.Pick.{by-case}
 use Rattle.floats.proofs.Mag.{Mag, Upto, Least, least-pos, within, within-upto}

@@ -1,9 +1,9 @@
 -- The casts, over the format: what fits stays, and each cast rises with what it casts.
-use Prim.Native.Nat.{ℕ, _*_, _/_, _^_, _-_, _≤_, _<_, min, zero-le}
+use Prim.Native.Nat.{ℕ, _*_, _/_, _^_, _-_, _≤_, min, zero-le}
 use native.Mathlib.Nat.{zero-mul, zero-div}
 use native.Mathlib.Omega.{arith}
-use mathlib.Core.Path.{_≡_, refl, sym, ap, _∙_, subst}
-use mathlib.Core.Bool.{Bool, true, false, not, cond}
+use mathlib.Core.Path.{_≡_, refl, sym, subst}
+use mathlib.Core.Bool.{Bool, true, false, not}
 use lib.IntN.{ℤ, pos}
 use lib.Dec.{T, eqb, eqb→eq}
 use lib.Pow.{pow-pos}

@@ -1,12 +1,9 @@
 -- What the larger, the smaller and the held one of floats are, over the format: one of their operands, in order with them.
-use mathlib.Core.Path.{_≡_, refl, sym, ap, _∙_, subst}
-use mathlib.Core.Logic.{_⊎_, inl, inr}
-use mathlib.Core.Bool.{Bool, true, false, not, cond}
+use mathlib.Core.Bool.{not, cond}
 use lib.Dec.{T}
 use lib.Ieee.{Float, Format, lt, le, fits, isNan}
 use lib.Ieee.Bits.{is-false}
 use lib.Ieee.Fits.{cond-fits}
-use denote.Floats.{passes}
 use Rattle.lists.specs.Pick.{by-case}
 use Rattle.floats.specs.Choose.{max, min, clamp}
 use Rattle.floats.proofs.Floor.{cond-number}

@@ -1,20 +1,20 @@
 -- A finite number's Euclidean remainder by a positive finite one lies from 0 to the divisor, both ends included, over the format.
 use Prim.Native.Nat.{ℕ, zero, suc, _+_, _-_, _*_, _%_, _^_, _≤_, _<_}
-use native.Mathlib.Nat.{le-of-lt, le-of-eq, mul-comm, mul-assoc, mul-right-comm, mul-one, one-mul, mul-pos, mul-le-mul-right, zero-mul, zero-lt-suc, mod-lt, sub-self}
+use native.Mathlib.Nat.{le-of-lt, le-of-eq, mul-comm, mul-assoc, mul-right-comm, one-mul, mul-pos, mul-le-mul-right, zero-mul, zero-lt-suc, mod-lt, sub-self}
 use native.Mathlib.Omega.{arith}
 use mathlib.Core.Path.{_≡_, refl, sym, ap, _∙_, subst}
 use mathlib.Core.Bool.{Bool, true, false, not, cond, _&&_}
 use lib.IntN.{ℤ, pos}
 use lib.Dec.{T, ltb, eqb·suc-zero}
 use lib.Ieee.{Float, nan, inf, fin, Format, up, down, round, sum, rem, add, neg, lt, le, fits, isNan}
-use lib.Ieee.Fits.{up-pos, down-pos, round-fits, add-fits, neg-fits}
+use lib.Ieee.Fits.{up-pos, down-pos, round-fits, neg-fits}
 use lib.Ieee.Scale.{finite, round-same}
 use borrow.Author.Tests.{le-ltb}
 use Rattle.floats.specs.Choose.{abs}
 use Rattle.floats.specs.Remainder.{remEuclid}
 use Rattle.floats.proofs.Values.{own-round}
 use Rattle.floats.proofs.Floor.{round-number}
-use Rattle.floats.proofs.Keys.{over, side, mag, key, key-neg}
+use Rattle.floats.proofs.Keys.{over, side, mag, key}
 use Rattle.floats.proofs.Mono.{size', size'-mono, round-side}
 use Rattle.floats.proofs.Rules.{key→le, not-lt→le, lt→le, add-number, neg-finite, finite-number, between-finite}
 use Rattle.floats.proofs.Rising.{nought, add-rises, not-above, not-itself}

@@ -1,6 +1,6 @@
 -- `floor` and `ceil` of the paths that the code takes, over the format.
-use Prim.Native.Nat.{ℕ, zero, suc, _+_, _-_, _*_, _/_, _%_, _^_, _≤_, _<_, min}
-use native.Mathlib.Nat.{le-refl, le-trans, le-of-lt, le-of-eq, lt-of-lt-of-le, lt-of-le-of-lt, lt-irrefl, mul-one, one-mul, le-of-suc-le-suc, suc-mul, div-le-self, mul-pos, mul-comm, mul-right-comm, mul-le-mul-left, le-mul-of-pos-right, div-lt-iff-lt-mul, div-add-mod', mod-lt, div-eq-of-lt-le, add-mul, zero-mul, div-one, mul-div-cancel, eq-of-mul-eq-mul-right}
+use Prim.Native.Nat.{ℕ, zero, suc, _+_, _-_, _*_, _/_, _^_, _≤_, _<_}
+use native.Mathlib.Nat.{le-trans, le-of-lt, lt-of-lt-of-le, lt-irrefl, mul-one, one-mul, le-of-suc-le-suc, suc-mul, div-le-self, le-mul-of-pos-right, div-lt-iff-lt-mul, div-add-mod', mod-lt, div-eq-of-lt-le, add-mul, zero-mul, mul-div-cancel}
 use native.Mathlib.Omega.{arith}
 use mathlib.Core.Path.{_≡_, refl, sym, ap, _∙_, subst}
 use mathlib.Core.Bool.{Bool, true, false, not, cond}
@@ -9,8 +9,7 @@ use lib.Dec.{T, ltb, ltb→lt}
 use lib.Pow.{pow-pos, pow-mono}
 use borrow.Author.Tests.{ltb-true, ltb-false}
 use lib.Ieee.{Float, nan, inf, fin, Format, binary32, binary64, prec, emax, low, odd, units, up, down, lt, neg, round, ofInt, toUnsigned, fits, isNan}
-use lib.Ieee.Fits.{up-pos, down-pos, round-fits, round-is, fits-widens}
-use lib.Ieee.Exact.{HasValue}
+use lib.Ieee.Fits.{down-pos, round-fits, round-is, fits-widens}
 use lib.Ieee.Back.{round-whole, whole-unique}
 use lib.Ieee.Scale.{round-same}
 use lib.Ieee.Order as Order

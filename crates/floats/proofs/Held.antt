@@ -1,21 +1,15 @@
 -- Bounds of a number that is held to a range or taken against a lower limit.
-use Prim.Native.Nat.{ℕ, zero, suc, _+_, _*_, _^_, _≤_, _<_, zero-le}
-use native.Mathlib.Nat.{le-trans, le-of-eq, le-of-lt, mul-comm, mul-assoc, mul-right-comm, mul-zero, mul-one, one-mul, zero-mul, mul-pos, mul-le-mul-right, mul-le-mul-left, le-of-mul-le-mul-right, eq-or-lt-of-le}
+use Prim.Native.Nat.{ℕ, _+_, _*_, _≤_, _<_, zero-le}
+use native.Mathlib.Nat.{le-trans, le-of-eq, mul-right-comm, zero-mul, mul-pos, mul-le-mul-right, le-of-mul-le-mul-right}
 use native.Mathlib.Omega.{arith}
-use mathlib.Core.Path.{_≡_, refl, sym, ap, _∙_, subst}
-use mathlib.Core.Logic.{inl, inr}
-use mathlib.Core.Bool.{Bool, true, false, cond, not, _&&_, _||_, true≢false}
-use lib.IntN.{ℤ, pos}
-use lib.Dec.{T, ltb, eqb, ltb→lt, lt→ltb, eqb→eq, eqb-refl}
-use lib.Ieee.{Float, nan, inf, fin, Format, up, down, round, lt, le, eq, isNan}
-use lib.Ieee.Fits.{up-pos, down-pos, and-l}
-use lib.Ieee.Exact.{HasValue}
-use lib.Ieee.Order.{round-mono}
+use mathlib.Core.Path.{_≡_, sym}
+use mathlib.Core.Bool.{true, false, true≢false}
+use lib.Dec.{ltb}
+use lib.Ieee.{Float, nan, inf, fin, up, down, lt, isNan}
+use lib.Ieee.Fits.{down-pos}
 use borrow.Author.Tests.{ltb-false}
 use Rattle.floats.specs.Choose.{max, clamp}
-use Rattle.floats.proofs.Sat.{no}
 use Rattle.lists.specs.Pick.{by-case}
-use Rattle.floats.proofs.Rising.{nought}
 use Rattle.floats.proofs.Mag.{Mag, Upto, Least, least-pos, no-less}
 
 -- ---- numbers that a test left

@@ -1,21 +1,21 @@
 -- `floor` and `ceil` are IEEE 754's rounding to a whole number, over the format: the only floats next to x as `Floored` and `Ceiled` say, and they never fall as x rises.
-use Prim.Native.Nat.{ℕ, zero, suc, _+_, _-_, _*_, _/_, _%_, _^_, _≤_, _<_}
-use native.Mathlib.Nat.{le-trans, le-of-eq, le-of-lt, lt-of-le-of-lt, lt-of-lt-of-le, le-of-suc-le-suc, le-antisymm, mul-one, one-mul, add-mul, zero-mul, mul-assoc, mul-right-comm, mul-le-mul-right, le-of-mul-le-mul-right, lt-of-mul-lt-mul-right, mul-lt-mul-of-pos-right, div-add-mod', mod-lt, div-le-self, div-one, zero-div}
+use Prim.Native.Nat.{ℕ, suc, _+_, _-_, _*_, _/_, _^_, _≤_, _<_}
+use native.Mathlib.Nat.{le-trans, le-of-eq, lt-of-le-of-lt, le-of-suc-le-suc, le-antisymm, mul-one, one-mul, add-mul, zero-mul, mul-right-comm, mul-le-mul-right, le-of-mul-le-mul-right, lt-of-mul-lt-mul-right, div-add-mod', mod-lt, div-le-self, div-one, zero-div}
 use native.Mathlib.Omega.{arith}
 use mathlib.Core.Path.{_≡_, refl, sym, ap, _∙_, subst}
 use mathlib.Core.Bool.{Bool, true, false, not}
 use lib.IntN.{ℤ, pos, negsuc}
 use lib.Dec.{T}
 use lib.Pow.{pow-pos}
-use lib.Ieee.{Float, nan, inf, fin, Format, prec, up, down, round, neg, lt, le, eq, fits, isNan}
-use lib.Ieee.Fits.{up-pos, down-pos, neg-fits}
+use lib.Ieee.{Float, nan, inf, fin, Format, up, down, round, neg, le, fits, isNan}
+use lib.Ieee.Fits.{down-pos}
 use lib.Ieee.Exact.{HasValue}
 use lib.Ieee.Back.{round-whole}
 use lib.Ieee.Nearest.{div-mono}
 use Rattle.floats.specs.Whole.{floor, ceil, cut, lift, Cut, Lifted, Whole, Floored, Ceiled}
 use Rattle.floats.proofs.Values.{fine, unique}
 use Rattle.floats.proofs.Floor.{kept, lift-le, ceil-is, floor-fits, floor-number}
-use Rattle.floats.proofs.Keys.{key, over}
+use Rattle.floats.proofs.Keys.{key}
 use Rattle.floats.proofs.Mono.{plus, minus, kz, kz-mono, round-kz, le→signed}
 use Rattle.floats.proofs.Rules.{key→le, le-left, le-right}
 use Rattle.floats.proofs.Rising.{le-refl, lowest, highest, past-lowest, past-highest, neg-falls}

@@ -1,15 +1,15 @@
 -- The order of floats as the order of natural numbers, over the format: `key` maps the values that a format holds, the infinities too, into ℕ, in order, and both zeros to one number.
 -- So any fact of order among floats is one for `omega`.
-use Prim.Native.Nat.{ℕ, zero, suc, _+_, _-_, _*_, _/_, _^_, _≤_, _<_}
-use native.Mathlib.Nat.{mul-comm, mul-assoc, mul-right-comm, mul-pos, mul-le-mul-right, le-of-mul-le-mul-right, lt-of-mul-lt-mul-right, lt-of-le-of-lt, lt-of-lt-of-le, le-of-eq, le-antisymm, le-trans, lt-of-not-le, le-of-suc-le-suc, eq-of-mul-eq-mul-right, mul-lt-mul-of-pos-right, zero-mul, mul-div-cancel, add-mul}
+use Prim.Native.Nat.{ℕ, suc, _+_, _-_, _*_, _/_, _^_, _≤_, _<_}
+use native.Mathlib.Nat.{mul-comm, mul-assoc, mul-right-comm, mul-pos, lt-of-mul-lt-mul-right, lt-of-lt-of-le, le-of-eq, le-antisymm, lt-of-not-le, le-of-suc-le-suc, eq-of-mul-eq-mul-right, mul-lt-mul-of-pos-right, zero-mul, mul-div-cancel, add-mul}
 use native.Mathlib.Omega.{arith}
 use mathlib.Core.Path.{_≡_, refl, sym, ap, _∙_, subst}
-use mathlib.Core.Bool.{Bool, true, false, not, cond, _&&_, _||_, Bool·beq}
-use lib.IntN.{ℤ, pos, negsuc}
-use lib.Dec.{T, ltb, leb, eqb, ltb→lt, lt→ltb, leb→le, le→leb, eqb→eq, eqb-refl}
+use mathlib.Core.Bool.{Bool, true, false, not, cond, _||_}
+use lib.IntN.{ℤ}
+use lib.Dec.{T, ltb, leb, eqb, ltb→lt, lt→ltb, leb→le, le→leb, eqb→eq}
 use lib.Pow.{pow-add, pow-pos}
-use lib.Ieee.{Float, nan, inf, fin, Format, prec, emax, low, up, down, lt, le, eq, neg, fits, isNan, below, level}
-use lib.Ieee.Fits.{up-pos, down-pos, eq→eqb, and-i, and-l, and-r}
+use lib.Ieee.{Float, nan, inf, fin, Format, emax, low, up, down, lt, le, eq, neg, fits, isNan, below, level}
+use lib.Ieee.Fits.{down-pos, eq→eqb, and-i, and-l, and-r}
 use Rattle.floats.specs.Convert.{unitsIn}
 use Rattle.floats.proofs.Values.{fine, steps, steps-are}
 

@@ -1,23 +1,20 @@
 -- Bounds by whole numbers, over the format: `Mag x k`, x is finite and at most k in size; `Upto x k`, it has no sign besides; `Least x j`, it is finite, has no sign and is at least 1 / j.
 -- A bound that the format holds passes through each operation.
-use Prim.Native.Nat.{ℕ, zero, suc, _+_, _-_, _*_, _/_, _^_, _≤_, _<_, zero-le}
-use native.Mathlib.Nat.{le-trans, le-of-eq, le-of-lt, mul-comm, mul-assoc, mul-right-comm, mul-mul-mul-comm, mul-one, one-mul, zero-mul, mul-zero, add-mul, mul-pos, mul-le-mul, mul-le-mul-right, mul-le-mul-left, le-of-mul-le-mul-right, lt-of-lt-of-le, eq-or-lt-of-le, zero-lt-suc}
+use Prim.Native.Nat.{ℕ, zero, suc, _+_, _*_, _^_, _≤_, _<_, zero-le}
+use native.Mathlib.Nat.{le-trans, le-of-eq, le-of-lt, mul-comm, mul-assoc, mul-right-comm, mul-one, zero-mul, mul-zero, mul-pos, mul-le-mul-right, mul-le-mul-left, le-of-mul-le-mul-right, lt-of-lt-of-le, eq-or-lt-of-le, zero-lt-suc}
 use native.Mathlib.Omega.{arith}
 use mathlib.Core.Path.{_≡_, refl, sym, ap, _∙_, subst}
 use mathlib.Core.Logic.{inl, inr}
-use mathlib.Core.Bool.{Bool, true, false, cond, not, _&&_, _||_, Bool·beq, true≢false}
-use lib.IntN.{ℤ, pos}
+use mathlib.Core.Bool.{Bool, true, false, cond, _&&_, _||_, true≢false}
+use lib.IntN.{ℤ}
 use lib.Dec.{T, ltb, eqb, eqb→eq, eqb-refl, ltb→lt, lt→ltb}
 use lib.Pow.{pow-pos}
-use lib.Ieee.{Float, nan, inf, fin, Format, prec, emax, low, up, down, odd, units, round, add, sub, neg, sum, mul, div, lt, eq, le, ofInt, isNan, unlike}
+use lib.Ieee.{Float, nan, inf, fin, Format, prec, emax, low, up, down, odd, units, round, lt, eq, le}
 use lib.Ieee.Fits.{down-pos, round-is, and-l, and-r}
 use lib.Ieee.Exact.{HasValue}
 use lib.Ieee.Back.{round-whole}
 use lib.Ieee.Order.{round-mono}
 use lib.Ieee.Scale.{finite}
-use Rattle.floats.specs.Choose.{max, min, abs}
-use Rattle.floats.specs.Convert.{convert}
-use Rattle.lists.specs.Pick.{by-case}
 use Rattle.floats.proofs.Rising.{nought}
 
 abbrev pub Mag : Float → ℕ → Type 0

@@ -1,16 +1,14 @@
 -- Rounding keeps the order of signed fractions, over the format, so each operation goes one way in each operand. A signed fraction is (P - N) / c.
 use Prim.Native.Nat.{ℕ, zero, suc, _+_, _-_, _*_, _/_, _^_, _≤_, _<_}
-use native.Mathlib.Nat.{mul-comm, mul-assoc, mul-left-comm, mul-right-comm, mul-pos, mul-one, one-mul, add-comm, add-mul, mul-add, mul-le-mul-right, mul-lt-mul-of-pos-right, zero-mul, zero-lt-suc, add-sub-of-le}
+use native.Mathlib.Nat.{mul-comm, mul-assoc, mul-left-comm, mul-pos, add-comm, add-mul, mul-le-mul-right, mul-lt-mul-of-pos-right, zero-mul, zero-lt-suc}
 use native.Mathlib.Omega.{arith}
 use mathlib.Core.Path.{_≡_, refl, sym, ap, _∙_, subst}
-use mathlib.Core.Bool.{Bool, true, false, not, cond, _&&_, _||_, Bool·beq}
-use lib.IntN.{ℤ, pos, negsuc}
-use lib.Dec.{T, ltb, leb, eqb, ltb→lt, leb→le, eqb→eq, eqb·suc-zero}
-use lib.Pow.{pow-pos}
+use mathlib.Core.Bool.{Bool, true, false, cond, _&&_, _||_}
+use lib.IntN.{ℤ, pos}
+use lib.Dec.{T, ltb, eqb, ltb→lt, leb→le, eqb→eq, eqb·suc-zero}
 use borrow.Author.Tests.{ltb-true, ltb-false, lt-ltb, le-ltb}
-use denote.Floats.{is-true}
-use lib.Ieee.{Float, nan, inf, fin, Format, prec, emax, low, up, down, odd, units, round, sum, add, mul, div, neg, sub, unlike, lt, le, eq, below, level, fits, isNan}
-use lib.Ieee.Fits.{up-pos, down-pos, round-fits, round-is, and-l, and-r, add-fits}
+use lib.Ieee.{Float, nan, inf, fin, Format, prec, emax, low, up, down, odd, units, round, sum, add, mul, div, unlike, lt, le, eq, below, level, fits}
+use lib.Ieee.Fits.{up-pos, down-pos, round-fits, round-is, and-l, and-r}
 use lib.Ieee.Order as Order
 use lib.Ieee.Order.{round-mono}
 use lib.Ieee.Scale.{round-same}

@@ -1,17 +1,16 @@
 -- The bit pattern of a rounded fraction, over the format: k dropped digits and the q that is kept give k * hid + q, or an infinity's pattern where that is less.
-use Prim.Native.Nat.{ℕ, zero, suc, _+_, _-_, _*_, _/_, _%_, _^_, _≤_, _<_, min, compare, zero-le}
-use native.Mathlib.Nat.{le-refl, le-trans, le-of-lt, le-of-eq, lt-of-lt-of-le, lt-of-le-of-lt, lt-of-not-le, not-le-of-lt, lt-irrefl, le-of-suc-le-suc, eq-or-lt-of-le, eq-zero-or-pos, mul-one, one-mul, zero-mul, zero-add, mul-pos, mul-comm, mul-assoc, mul-right-comm, mul-le-mul-right, mul-lt-mul-of-pos-right, mul-div-cancel, add-mul, suc-mul, div-div-eq-div-mul, pow-succ', le-div-iff-mul-le}
+use Prim.Native.Nat.{ℕ, suc, _+_, _-_, _*_, _/_, _%_, _^_, _≤_, _<_, min, compare}
+use native.Mathlib.Nat.{le-refl, le-trans, le-of-eq, lt-of-lt-of-le, lt-of-le-of-lt, lt-of-not-le, not-le-of-lt, lt-irrefl, le-of-suc-le-suc, eq-or-lt-of-le, eq-zero-or-pos, one-mul, zero-add, mul-comm, mul-assoc, mul-le-mul-right, mul-lt-mul-of-pos-right, mul-div-cancel, add-mul, suc-mul, div-div-eq-div-mul, pow-succ', le-div-iff-mul-le}
 use native.Mathlib.Omega.{arith}
-use mathlib.Core.Logic.{_⊎_, inl, inr}
+use mathlib.Core.Logic.{inl, inr}
 use mathlib.Core.Path.{_≡_, refl, sym, ap, _∙_, subst}
 use mathlib.Core.Bool.{Bool, true, false, cond}
-use lib.IntN.{ℤ, pos, negsuc}
-use lib.Dec.{T, ltb, ltb→lt, lit<, lit≤}
+use lib.Dec.{T, ltb, lit<, lit≤}
 use lib.Pow.{pow-add, pow-pos, pow-mono, pow-lt}
 use borrow.Author.Tests.{ltb-true, ltb-false, lt-ltb, le-ltb}
-use lib.Ieee.{Float, nan, inf, fin, Format, binary32, binary64, prec, emax, low, up, down, size, nearest, odd, units, round, fits, toBits, ofBits, hid, ones, top}
+use lib.Ieee.{Float, nan, inf, fin, Format, binary32, binary64, prec, emax, low, up, down, size, odd, units, round, fits, toBits, ofBits, hid, ones, top}
 use lib.Ieee.Digits.{size-lt, size-le, size-reaches}
-use lib.Ieee.Fits.{two, two-le-pos, down-pos, kept-lt, nearest-le, round-is, round-fits, odd-fits}
+use lib.Ieee.Fits.{two, down-pos, kept-lt, nearest-le, round-is, odd-fits}
 use lib.Ieee.Bits.{ofBits-toBits}
 use lib.Ieee.Exact.{HasValue, units-val}
 use lib.Ieee.Nearest.{closest, nearest-ge}

@@ -1,14 +1,14 @@
 -- The remainder, over the format: of a number from 0 up to below the divisor it is the number itself.
-use Prim.Native.Nat.{ℕ, zero, suc, _+_, _*_, _%_, _^_, _≤_, _<_}
+use Prim.Native.Nat.{ℕ, zero, suc, _+_, _*_, _%_, _^_, _<_}
 use native.Mathlib.Nat.{mod-eq-of-lt, mul-pos, mul-right-comm, mul-assoc, zero-mul}
 use native.Mathlib.Omega.{arith}
 use mathlib.Core.Path.{_≡_, refl, sym, ap, _∙_}
-use mathlib.Core.Bool.{Bool, true, false, cond, true≢false}
+use mathlib.Core.Bool.{Bool, true, false, cond}
 use lib.IntN.{ℤ, pos}
-use lib.Dec.{T, ltb, eqb, ltb→lt, eqb→eq, eqb·suc-zero}
+use lib.Dec.{T, eqb, eqb→eq, eqb·suc-zero}
 use lib.Ieee.{Float, nan, inf, fin, Format, up, down, round, rem, lt, le, eq, below, fits}
 use denote.Floats.{passes}
-use lib.Ieee.Fits.{up-pos, down-pos, and-l}
+use lib.Ieee.Fits.{down-pos, and-l}
 use lib.Ieee.Scale.{round-same}
 use borrow.Author.Tests.{ltb-true}
 use Rattle.floats.proofs.Sat.{no}

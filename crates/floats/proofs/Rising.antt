@@ -3,9 +3,9 @@ use Prim.Native.Nat.{ℕ, zero, suc, _*_, _<_}
 use native.Mathlib.Nat.{mul-pos, zero-mul, mul-zero, zero-lt-suc}
 use native.Mathlib.Omega.{arith}
 use mathlib.Core.Path.{_≡_, refl, sym, ap, _∙_, subst}
-use mathlib.Core.Bool.{Bool, true, false, not, cond, _&&_, _||_}
-use lib.IntN.{ℤ, pos, negsuc}
-use lib.Dec.{T, ltb, eqb, ltb→lt, eqb→eq, eqb·suc-zero}
+use mathlib.Core.Bool.{Bool, true, false, not, cond, _||_}
+use lib.IntN.{ℤ, pos}
+use lib.Dec.{T, eqb, ltb→lt, eqb→eq, eqb·suc-zero}
 use lib.Ieee.{Float, nan, inf, fin, Format, up, down, round, add, sub, mul, div, neg, lt, le, eq, fits, isNan, unlike}
 use lib.Ieee.Fits.{add-fits, mul-fits, div-fits, neg-fits, up-pos, down-pos, and-l}
 use lib.Ieee.Scale.{finite}

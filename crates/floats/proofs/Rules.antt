@@ -1,20 +1,19 @@
 -- The rules of order for a caller, over the format and over all floats.
-use Prim.Native.Nat.{ℕ, zero, suc, _+_, _-_, _*_, _^_, _≤_, _<_}
+use Prim.Native.Nat.{ℕ, _+_, _-_, _*_, _≤_}
 use native.Mathlib.Omega.{arith}
-use mathlib.Core.Path.{_≡_, refl, sym, ap, _∙_, subst}
+use mathlib.Core.Path.{_≡_, sym, _∙_, subst}
 use mathlib.Core.Bool.{Bool, true, false, not, cond, _&&_, _||_, Bool·beq}
 use borrow.Author.Tests.{ltb-false}
-use lib.IntN.{ℤ, pos, negsuc}
-use lib.Dec.{T, ltb, leb, leb→le, le→leb, ltb→lt, lt→ltb}
-use lib.Ieee.{Float, nan, inf, fin, Format, binary32, up, down, round, sum, add, sub, mul, div, neg, lt, le, eq, fits, isNan, ofBits}
-use lib.Ieee.Fits.{add-fits, mul-fits, div-fits, neg-fits, round-fits, down-pos}
+use lib.Dec.{T, ltb, leb→le, le→leb}
+use lib.Ieee.{Float, nan, inf, fin, Format, up, down, round, sum, add, sub, neg, lt, le, eq, fits, isNan}
+use lib.Ieee.Fits.{add-fits, neg-fits, round-fits, down-pos}
 use lib.Ieee.Scale.{finite}
 use Rattle.floats.specs.Convert.{convert}
 use lib.Ieee.Bits.{is-true}
 use Rattle.floats.proofs.Facts.{eq-self}
 use Rattle.floats.proofs.Floor.{round-number, cond-number}
-use Rattle.floats.proofs.Keys.{over, key, le-key, lt-key, key-neg}
-use Rattle.floats.proofs.Mono.{add-up, add-swap, mul-up, div-up, round-kz, kz-mono, le→signed, plus, minus}
+use Rattle.floats.proofs.Keys.{key, le-key, lt-key, key-neg}
+use Rattle.floats.proofs.Mono.{add-up, add-swap, round-kz, kz-mono, le→signed, plus, minus}
 
 -- what is compared with success is no NaN
 pub le-left : (x y : Float) → T (le x y) → T (not (isNan x))

@@ -1,17 +1,16 @@
 -- Over the format: a value that fits is known by its sign and its fraction, `round` leaves it, and a sign goes through `round`.
-use Prim.Native.Nat.{ℕ, zero, suc, _+_, _-_, _*_, _/_, _%_, _^_, _≤_, _<_, compare}
-use native.Mathlib.Nat.{le-of-suc-le-suc, lt-of-not-le, lt-irrefl, lt-of-lt-of-le, le-trans, le-of-eq, mul-one, one-mul, zero-mul, mul-comm, mul-assoc, mul-left-comm, mul-right-comm, mul-pos, eq-of-mul-eq-mul-right, mul-lt-mul-of-pos-right, mul-le-mul-right, lt-of-mul-lt-mul-right, zero-lt-suc}
-use native.Mathlib.Omega.{arith}
+use Prim.Native.Nat.{ℕ, zero, suc, _+_, _-_, _*_, _/_, _%_, _^_, _≤_, _<_}
+use native.Mathlib.Nat.{le-of-suc-le-suc, lt-of-not-le, lt-irrefl, lt-of-lt-of-le, le-trans, le-of-eq, mul-one, one-mul, zero-mul, mul-comm, mul-assoc, mul-right-comm, mul-pos, eq-of-mul-eq-mul-right, mul-lt-mul-of-pos-right, mul-le-mul-right, lt-of-mul-lt-mul-right}
 use mathlib.Core.Path.{_≡_, refl, sym, ap, _∙_, subst}
 use mathlib.Core.Bool.{Bool, true, false, cond, not, _&&_}
 use lib.IntN.{ℤ, pos, negsuc}
 use lib.Dec.{T, ltb, leb, eqb, ltb→lt, leb→le, eqb→eq}
-use lib.Pow.{pow-add, pow-pos, pow-mono, pow-lt}
+use lib.Pow.{pow-add, pow-pos, pow-lt}
 use lib.Ieee.{Float, nan, inf, fin, Format, prec, emax, low, up, down, top, hid, size, odd, units, round, neg, fits, toBits, ofBits}
 use lib.Ieee.Digits.{back}
 use lib.Ieee.Fits.{up-pos, down-pos, and-l, and-r, round-fits, round-is}
 use lib.Ieee.Bits.{ofBits-toBits}
-use lib.Ieee.Nearest.{div-same, closest}
+use lib.Ieee.Nearest.{div-same}
 use lib.Ieee.Exact.{HasValue, round-exact}
 use lib.Ieee.Order.{kept, drop}
 

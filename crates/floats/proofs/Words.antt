@@ -1,8 +1,8 @@
 -- Words: a product by halves, and a rotation by two shifts.
-use Prim.Native.Nat.{ℕ, zero, suc, _+_, _-_, _*_, _/_, _%_, _^_, _≤_, _<_}
+use Prim.Native.Nat.{ℕ, _+_, _-_, _*_, _/_, _%_, _^_, _≤_, _<_}
 use native.Mathlib.Nat.{le-of-lt, lt-of-le-of-lt, mul-le-mul-left, mul-lt-mul-of-pos-right, add-mod, add-mul, mul-add, mul-assoc, mul-comm, mul-left-comm, mul-one, mul-mod-left, mul-add-mod-self-right, div-add-mod', mod-eq-of-lt, div-eq-of-lt}
 use native.Mathlib.Omega.{arith}
-use mathlib.Core.Path.{_≡_, refl, sym, ap, _∙_, subst, subst⁻¹}
+use mathlib.Core.Path.{_≡_, sym, ap, _∙_, subst, subst⁻¹}
 use lib.Bits.{bitOr, or-shifted}
 use lib.Pow.{pow-pos, pow-add, shl-shr, shr-lt, mod-pow-add}
 use Rattle.floats.specs.Word.{rotated}

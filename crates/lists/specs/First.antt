@@ -1,5 +1,5 @@
 -- A loop that searches an array and stops at the first element that passes: `for i in 0..n { if q(i, xs[i]) { return i; } } n`.
-use mathlib.Core.Path.{_≡_, refl, sym, ap, _∙_, subst}
+use mathlib.Core.Path.{_≡_, sym, ap, _∙_, subst}
 use mathlib.Core.Logic.{inl, inr}
 use mathlib.Core.Bool.{Bool, true, false, true≢false}
 use mathlib.Core.List.{List, [], _∷_}

@@ -1,6 +1,5 @@
 use native.Mathlib.Omega.{arith}
-use native.Mathlib.Nat.{mod-eq-of-lt, mod-eq-sub-mod}
-use Prim.Native.Nat.{_-_, _≤_, _%_}
+use Prim.Native.Nat.{_-_}
 use mathlib.Core.Path.{_≡_, sym, ap, _∙_, subst}
 use mathlib.Core.Bool.{Bool, not, false}
 use lib.Dec.{T}
@@ -13,9 +12,6 @@ use Rattle.floats.proofs.Facts.{ne-self}
 use Rattle.floats.proofs.Narrow.{at-most-inf, signed, convert-neg}
 use Rattle.floats.proofs.cast.f64_to_f32.Statement.{statement}
 use Rattle.floats.proofs.cast.f64_to_f32.Tie as tie
-use Rattle.floats.proofs.cast.f64_to_f32.Reads as reads
-use Rattle.floats.proofs.cast.f64_to_f32.Lts as lts
-use Rattle.floats.proofs.cast.narrowed.Reads as narrowed-reads
 
 no-nan : (x : Float) → ne x x ≡ false → isNan x ≡ false
 no-nan x h = sym (ne-self x) ∙ h

@@ -1,6 +1,5 @@
 use borrow.Author.Needs.{needs}
 use native.Mathlib.Omega.{arith}
-use Prim.Native.Nat.{_≤_}
 use lib.Dec.{lit≤}
 use Rattle.floats.proofs.Sat.{toUnsigned-narrow}
 use Rattle.floats.proofs.cast.f64_to_u32.Statement.{statement}

@@ -1,18 +1,13 @@
 use borrow.Author.Needs.{needs}
-use Prim.Native.Nat.{ℕ, _+_, _-_, _*_, _/_, _%_, _^_, _<_, _≤_, min}
+use Prim.Native.Nat.{ℕ, _+_, _-_, _*_, _/_, _%_, _^_, min}
 use native.Mathlib.Omega.{arith}
-use mathlib.Core.Path.{_≡_, sym, ap, _∙_, subst}
-use lib.Pow.{pow-pos, shl-exact, pow-lt}
+use mathlib.Core.Path.{ap, _∙_}
 use lib.Dec.{lit<}
 use lib.Ieee.{binary32, ofBits}
 use lib.Ieee.Nearest.{closest}
 use Rattle.floats.proofs.Narrow.{closest-le, shifted, unit-in, narrow-tiny, narrow-low, narrow-high}
 use Rattle.floats.proofs.cast.narrowed.Statement.{statement}
 use Rattle.floats.proofs.cast.narrowed.Tie as tie
-use Rattle.floats.proofs.cast.narrowed.Reads as reads
-use Rattle.floats.proofs.cast.narrowed.Lts as lts
-use Rattle.floats.proofs.cast.nearest_part.Reads as nearest-part-reads
-use Rattle.floats.proofs.cast.pack32.Reads as pack32-reads
 
 add-n : tie.Need-add-n
 add-n c = search needs

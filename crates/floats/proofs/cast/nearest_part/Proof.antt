@@ -7,8 +7,6 @@ use Prim.Native.Nat.{ℕ, _*_, _/_, _≤_, _<_}
 use Rattle.floats.proofs.Narrow.{closest-below, closest-tie, closest-above}
 use Rattle.floats.proofs.cast.nearest_part.Statement.{statement}
 use Rattle.floats.proofs.cast.nearest_part.Tie as tie
-use Rattle.floats.proofs.cast.nearest_part.Reads as reads
-use Rattle.floats.proofs.cast.nearest_part.Lts as lts
 
 two-pos : (u : ℕ) → 2 ≤ u → 0 < u
 two-pos u h = omega arith

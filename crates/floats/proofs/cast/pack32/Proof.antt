@@ -6,8 +6,6 @@ use lib.Ieee.{binary32, ofBits}
 use Rattle.floats.proofs.Narrow.{no-nan}
 use Rattle.floats.proofs.cast.pack32.Statement.{statement}
 use Rattle.floats.proofs.cast.pack32.Tie as tie
-use Rattle.floats.proofs.cast.pack32.Reads as reads
-use Rattle.floats.proofs.cast.pack32.Lts as lts
 
 mul-p : tie.Need-mul-p
 mul-p c = search needs

@@ -1,22 +1,16 @@
 use borrow.Author.Needs.{needs}
 use mathlib.Core.Bool.{false}
-use Prim.Native.Nat.{ℕ, suc, _+_, _-_, _*_, _/_, _%_, _^_, _<_, _≤_, min}
+use Prim.Native.Nat.{ℕ, suc, _+_, _-_, _*_, _%_, _^_, _<_, _≤_, min}
 use native.Mathlib.Omega.{arith}
-use mathlib.Core.Path.{_≡_, sym, ap, _∙_, subst}
-use lib.IntN.{pos}
-use lib.Pow.{pow-mono, pow-lt}
+use mathlib.Core.Path.{_≡_, ap, _∙_}
+use lib.Pow.{pow-mono}
 use lib.Count.{leadingZeros, leading-top}
 use lib.Ieee.{binary32, ofBits, ofInt, round}
 use lib.Ieee.Nearest.{closest}
-use native.Mathlib.Nat.{lt-of-not-le, lt-irrefl, lt-of-lt-of-le, div-le-self}
+use native.Mathlib.Nat.{lt-of-not-le, lt-irrefl, lt-of-lt-of-le}
 use Rattle.floats.proofs.Narrow.{closest-half, shifted, unit-in, rounded-whole}
 use Rattle.floats.proofs.cast.u64_to_f32.Statement.{statement}
 use Rattle.floats.proofs.cast.u64_to_f32.Tie as tie
-use Rattle.floats.proofs.cast.u64_to_f32.Reads as reads
-use Rattle.floats.proofs.cast.u64_to_f32.Lts as lts
-use Rattle.floats.proofs.cast.nearest_part.Reads as nearest-part-reads
-use Rattle.floats.proofs.cast.pack32.Reads as pack32-reads
-use Rattle.std.proofs.num.nearest_u32_to_f32.Reads as nearest-u32-to-f32-reads
 
 pow-lt-back : (i p : ℕ) → 2 ^ i < 2 ^ p → i < p
 pow-lt-back i p h = lt-of-not-le (λ (g : p ≤ i). lt-irrefl (2 ^ i) (lt-of-lt-of-le h (pow-mono g)))

@@ -1,4 +1,4 @@
-use mathlib.Core.Path.{_≡_, sym, ap, _∙_}
+use mathlib.Core.Path.{sym, ap, _∙_}
 use lib.Ieee.{binary64}
 use lib.Ieee.Compare.{differs-from-itself}
 use denote.Floats.{passes}

@@ -1,6 +1,6 @@
 use borrow.Author.Needs.{needs}
-use mathlib.Core.Path.{_≡_, sym, ap, _∙_, subst}
-use mathlib.Core.Bool.{Bool, not, _&&_}
+use mathlib.Core.Path.{sym, ap, _∙_, subst}
+use mathlib.Core.Bool.{not, _&&_}
 use lib.Dec.{T}
 use lib.Ieee.{Float, binary32, binary64, isNan, fits}
 use lib.Ieee.Compare.{differs-from-itself}
@@ -11,9 +11,6 @@ use Rattle.floats.proofs.Facts.{no-nan}
 use Rattle.floats.proofs.Floor.{floor-widens, floor-fits, floor-number}
 use Rattle.floats.proofs.whole.floor32.Statement.{statement}
 use Rattle.floats.proofs.whole.floor32.Tie as tie
-use Rattle.floats.proofs.whole.floor32.Reads as reads
-use Rattle.floats.proofs.whole.floor32.Lts as lts
-use Rattle.floats.proofs.whole.floor64.Reads as floor64-reads
 
 float-to-float-floor64 : tie.Need-float-to-float-floor64
 float-to-float-floor64 c =

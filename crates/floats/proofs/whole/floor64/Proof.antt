@@ -1,18 +1,15 @@
 use borrow.Author.Needs.{needs}
 use native.Mathlib.Omega.{arith}
-use mathlib.Core.Path.{_≡_, sym, ap, _∙_, subst}
-use mathlib.Core.Bool.{true}
+use mathlib.Core.Path.{sym, ap, _∙_}
 use Prim.Native.Nat.{_+_}
 use lib.IntN.{pos}
-use lib.Dec.{T, lit≤}
+use lib.Dec.{lit≤}
 use lib.Ieee.{binary64, ofBits, neg, ofInt, lt}
 use denote.Floats.{passes}
 use Rattle.floats.proofs.Order.{above-minus-one, under-more, neg-positive, whole-under}
 use Rattle.floats.proofs.Floor.{floor-small, floor-large, floor-large-neg, floor-of-zero, floor-down, floor-even}
 use Rattle.floats.proofs.whole.floor64.Statement.{statement}
 use Rattle.floats.proofs.whole.floor64.Tie as tie
-use Rattle.floats.proofs.whole.floor64.Reads as reads
-use Rattle.floats.proofs.whole.floor64.Lts as lts
 
 truncating-f64-to-u64-requires : tie.Need-truncating-f64-to-u64-requires
 unfolding ofBits

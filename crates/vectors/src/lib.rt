@@ -1,0 +1,66 @@
+// A line of stored cases: the operation's number in two hexadecimal digits, its name, three
+// operands and the answer in sixteen each, and the line's end.
+ghost use mathlib.Core.Path.{_≡_};
+ghost use Prim.Native.Nat.{_+_, _≤_, _<_};
+ghost use Rattle.vectors.specs.Line.{digitOf, numberAt};
+
+fn digit(b: u8) -> u64
+    ensures { λ r. ⌜ (r ≡ digitOf b) × (r < 16) ⌝ }
+{
+    if b < 48 {
+        return 0;
+    }
+    if b < 58 {
+        return (b - 48) as u64;
+    }
+    if b < 97 {
+        return 0;
+    }
+    if b < 103 {
+        return (b - 87) as u64;
+    }
+    0
+}
+
+fn number(line: &[u8; 84], at: usize, n: usize) -> u64
+    requires { ⌜ at + n ≤ 84 ⌝ ∗ ⌜ n ≤ 16 ⌝ }
+    ensures { λ r. ⌜ r ≡ numberAt (now (line .entry)) at n ⌝ }
+{
+    let mut w: u64 = 0;
+    let mut i: usize = 0;
+    while i < n {
+        w = w * 16 + digit(line[at + i]);
+        i = i + 1;
+    }
+    w
+}
+
+pub fn operation(line: &[u8; 84]) -> u64
+    ensures { λ r. ⌜ r ≡ numberAt (now (line .entry)) 0 2 ⌝ }
+{
+    number(line, 0, 2)
+}
+
+pub fn first(line: &[u8; 84]) -> u64
+    ensures { λ r. ⌜ r ≡ numberAt (now (line .entry)) 16 16 ⌝ }
+{
+    number(line, 16, 16)
+}
+
+pub fn second(line: &[u8; 84]) -> u64
+    ensures { λ r. ⌜ r ≡ numberAt (now (line .entry)) 33 16 ⌝ }
+{
+    number(line, 33, 16)
+}
+
+pub fn third(line: &[u8; 84]) -> u64
+    ensures { λ r. ⌜ r ≡ numberAt (now (line .entry)) 50 16 ⌝ }
+{
+    number(line, 50, 16)
+}
+
+pub fn answer(line: &[u8; 84]) -> u64
+    ensures { λ r. ⌜ r ≡ numberAt (now (line .entry)) 67 16 ⌝ }
+{
+    number(line, 67, 16)
+}
