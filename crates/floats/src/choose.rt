@@ -79,6 +79,6 @@ pub fn is_finite32(x: f32) -> bool
 pub fn is_finite64(x: f64) -> bool
     ensures { λ r. ⌜ r ≡ finite x ⌝ }
 {
-    let d = x - x;
-    d == d
+    let gap = x - x;
+    gap == gap
 }

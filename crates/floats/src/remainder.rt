@@ -22,8 +22,8 @@ pub fn rem32(x: f32, m: f32) -> f32
 pub fn rem64(x: f64, m: f64) -> f64
     ensures { λ r. ⌜ r ≡ rem binary64 x m ⌝ }
 {
-    if 0.0 <= x {
-        if x < m {
+    if x >= 0.0 {
+        if m > x {
             return x;
         }
     }
