@@ -1,3 +1,4 @@
+-- `f32_to_u64` meets its contract: the f64 form at the same number.
 use borrow.Author.Needs.{needs}
 use Rattle.floats.proofs.cast.f32_to_u64.Statement.{statement}
 use Rattle.floats.proofs.cast.f32_to_u64.Tie as tie

@@ -1,3 +1,4 @@
+-- `f64_to_f32` meets its contract: the size by `narrowed`, the sign through the rounding.
 use native.Mathlib.Omega.{arith}
 use Prim.Native.Nat.{_-_}
 use mathlib.Core.Path.{_≡_, sym, ap, _∙_, subst}

@@ -1,3 +1,4 @@
+-- `f64_to_u32` meets its contract: the cast to 64 bits, cut at the end of 32.
 use borrow.Author.Needs.{needs}
 use native.Mathlib.Omega.{arith}
 use lib.Dec.{lit≤}

@@ -1,3 +1,4 @@
+-- `f64_to_u64` meets its contract: `Sat` has what lies outside the range.
 use borrow.Author.Needs.{needs}
 use mathlib.Core.Path.{sym, subst}
 use lib.Dec.{T}

@@ -1,3 +1,4 @@
+-- `narrowed` meets its contract: `Narrow` says for each range of the exponent what is rounded, and `Pack` what its pattern is.
 use borrow.Author.Needs.{needs}
 use Prim.Native.Nat.{ℕ, _+_, _-_, _*_, _/_, _%_, _^_, min}
 use native.Mathlib.Omega.{arith}

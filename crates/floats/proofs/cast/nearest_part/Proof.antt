@@ -1,3 +1,4 @@
+-- `nearest_part` meets its contract: the three arms are the three cases of `closest`.
 use borrow.Author.Needs.{needs}
 use native.Mathlib.Omega.{arith}
 use mathlib.Core.Path.{sym}

@@ -1,3 +1,4 @@
+-- `pack32` meets its contract: the lesser of a pattern and the infinity's is no NaN's.
 use borrow.Author.Needs.{needs}
 use native.Mathlib.Omega.{arith}
 use Prim.Native.Nat.{_+_, _*_}

@@ -1,3 +1,4 @@
+-- `u64_to_f32` meets its contract: the leading digit's place fixes the exponent, and `Narrow` the rounding.
 use borrow.Author.Needs.{needs}
 use mathlib.Core.Bool.{false}
 use Prim.Native.Nat.{ℕ, suc, _+_, _-_, _*_, _%_, _^_, _<_, _≤_, min}

@@ -1,3 +1,4 @@
+-- `abs32` meets its contract: by `Sign`, over the format.
 use mathlib.Core.Path.{sym, ap, _∙_}
 use lib.Ieee.{binary32}
 use lib.Ieee.Compare.{differs-from-itself}

@@ -1,3 +1,4 @@
+-- `abs64` meets its contract: by `Sign`, over the format.
 use mathlib.Core.Path.{sym, ap, _∙_}
 use lib.Ieee.{binary64}
 use lib.Ieee.Compare.{differs-from-itself}

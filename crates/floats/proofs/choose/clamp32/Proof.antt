@@ -1,3 +1,4 @@
+-- `clamp32` meets its contract: the two picks are the definition's.
 use borrow.Author.Needs.{needs}
 use Rattle.floats.specs.Choose.{clamp}
 use Rattle.floats.proofs.choose.clamp32.Statement.{statement}

@@ -1,3 +1,4 @@
+-- `is_finite32` meets its contract: `Rules.self-apart`.
 use lib.Ieee.{binary32}
 use Rattle.floats.proofs.Rules.{self-apart}
 use Rattle.floats.proofs.choose.is_finite32.Statement.{statement}

@@ -1,3 +1,4 @@
+-- `is_finite64` meets its contract: `Rules.self-apart`.
 use lib.Ieee.{binary64}
 use Rattle.floats.proofs.Rules.{self-apart}
 use Rattle.floats.proofs.choose.is_finite64.Statement.{statement}

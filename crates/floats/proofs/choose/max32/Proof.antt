@@ -1,3 +1,4 @@
+-- `max32` meets its contract: the picks are the definition's.
 use borrow.Author.Needs.{needs}
 use Rattle.floats.specs.Choose.{max}
 use Rattle.floats.proofs.Facts.{ne-self}

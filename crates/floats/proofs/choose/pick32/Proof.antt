@@ -1,3 +1,4 @@
+-- `pick32` meets its contract: by the two cases of the test.
 use Rattle.floats.proofs.choose.pick32.Statement.{statement}
 use Rattle.floats.proofs.choose.pick32.Tie as tie
 

@@ -1,3 +1,4 @@
+-- `bits64` meets its contract: the one NaN pattern is `toBits`'s own.
 use borrow.Author.Needs.{needs}
 use mathlib.Core.Path.{sym, ap}
 use lib.Ieee.{binary64, toBits}

@@ -1,3 +1,4 @@
+-- `of_bits32` meets its contract: a pattern past the infinity's is a NaN's.
 use borrow.Author.Needs.{needs}
 use mathlib.Core.Path.{sym}
 use lib.Ieee.{binary32, div, ofBits}

@@ -1,3 +1,4 @@
+-- `of_bits64` meets its contract: a pattern past the infinity's is a NaN's.
 use borrow.Author.Needs.{needs}
 use mathlib.Core.Path.{sym}
 use lib.Ieee.{binary64, div, ofBits}

@@ -1,3 +1,4 @@
+-- `rem32` meets its contract: `Rem.rem-inside` for the early answer.
 use borrow.Author.Needs.{needs}
 use lib.Ieee.{binary32, ofBits}
 use denote.Floats.{passes}

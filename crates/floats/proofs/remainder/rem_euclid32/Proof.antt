@@ -1,3 +1,4 @@
+-- `rem_euclid32` meets its contract: the callees' answers, put together.
 use borrow.Author.Needs.{needs}
 use lib.Ieee.{ofBits}
 use Rattle.floats.specs.Remainder.{remEuclid}

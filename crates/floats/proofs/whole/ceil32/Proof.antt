@@ -1,3 +1,4 @@
+-- `ceil32` meets its contract: by `floor` of the negation.
 use borrow.Author.Needs.{needs}
 use mathlib.Core.Path.{ap, _∙_}
 use lib.Ieee.{binary32, neg}

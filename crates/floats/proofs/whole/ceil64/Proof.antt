@@ -1,3 +1,4 @@
+-- `ceil64` meets its contract: by `floor` of the negation.
 use borrow.Author.Needs.{needs}
 use mathlib.Core.Path.{ap, _∙_}
 use lib.Ieee.{binary64, neg}

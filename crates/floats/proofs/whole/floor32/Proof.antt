@@ -1,3 +1,4 @@
+-- `floor32` meets its contract: the floor is the same number in both formats, and f32 holds it.
 use borrow.Author.Needs.{needs}
 use mathlib.Core.Path.{sym, ap, _∙_, subst}
 use mathlib.Core.Bool.{not, _&&_}

@@ -1,3 +1,4 @@
+-- `floor64` meets its contract: `Floor` has each path of the code.
 use borrow.Author.Needs.{needs}
 use native.Mathlib.Omega.{arith}
 use mathlib.Core.Path.{sym, ap, _∙_}

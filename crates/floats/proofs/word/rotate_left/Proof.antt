@@ -1,3 +1,4 @@
+-- `rotate_left` meets its contract: `Words.turned`.
 use borrow.Author.Needs.{needs}
 use Rattle.floats.proofs.Words.{turned-none, turned}
 use Rattle.floats.proofs.word.rotate_left.Statement.{statement}

@@ -1,3 +1,4 @@
+-- `wrapping_mul` meets its contract: `Words.by-halves`.
 use borrow.Author.Needs.{needs}
 use Prim.Native.Nat.{_/_, _%_}
 use native.Mathlib.Omega.{arith}
