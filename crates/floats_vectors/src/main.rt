@@ -92,23 +92,12 @@ fn differs(line: &[u8; 84]) -> bool {
     r != answer(line)
 }
 
-fn next(line: &mut [u8; 84]) -> bool {
-    io::read_full(0, line) == 84
-}
-
-fn say(cases: u64, wrong: u64) {
-    io::print_decimal(1, cases);
-    io::write_all(1, b" cases, ");
-    io::print_decimal(1, wrong);
-    io::write_all(1, b" differ\n");
-}
-
 fn main() {
     let mut line = [0u8; 84];
     let mut cases: u64 = 0;
     let mut wrong: u64 = 0;
     while cases < 1000000 {
-        if !next(&mut line) {
+        if vectors::next(&mut line) < 84 {
             break;
         }
         cases = cases + 1;
@@ -116,5 +105,5 @@ fn main() {
             wrong = wrong + 1;
         }
     }
-    say(cases, wrong);
+    vectors::say(cases, wrong);
 }

@@ -64,3 +64,20 @@ pub fn answer(line: &[u8; 84]) -> u64
 {
     number(line, 67, 16)
 }
+
+// Reads the next line from standard input, and answers how many bytes came: 84, or fewer at the end.
+// What comes from outside no contract can say.
+pub fn next(line: &mut [u8; 84]) -> usize
+    ensures { λ r. ⌜ r ≤ 84 ⌝ }
+{
+    let n = io::read_full(0, line);
+    if n < 84 { n } else { 84 }
+}
+
+// Writes what came of the cases.
+pub fn say(cases: u64, wrong: u64) {
+    io::print_decimal(1, cases);
+    io::write_all(1, b" cases, ");
+    io::print_decimal(1, wrong);
+    io::write_all(1, b" differ\n");
+}

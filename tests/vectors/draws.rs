@@ -1,0 +1,40 @@
+//! Prints the stored cases of `draws_vectors`: SplitMix64's published outputs for the seeds 0 and
+//! 1234567, each beside the state that its output function is applied to, and two worked examples.
+//!
+//!     rustc -O tests/vectors/draws.rs -o target/draws && target/draws > crates/draws_vectors/stdin
+
+/// What SplitMix64 adds to its state before each output.
+const STEP: u64 = 0x9e37_79b9_7f4a_7c15;
+
+const SEED_0: [u64; 5] = [
+    0xe220_a839_7b1d_cdaf,
+    0x6e78_9e6a_a1b9_65f4,
+    0x06c4_5d18_8009_454f,
+    0xf88b_b8a8_724c_81ec,
+    0x1b39_896a_51a8_749b,
+];
+
+const SEED_1234567: [u64; 5] = [
+    6457827717110365317,
+    3203168211198807973,
+    9817491932198370423,
+    4593380528125082431,
+    16408922859458223821,
+];
+
+fn line(number: u8, name: &str, operands: [u64; 3], answer: u64) {
+    let [a, b, c] = operands;
+    println!("{number:02x} {name:<12} {a:016x} {b:016x} {c:016x} {answer:016x}");
+}
+
+fn main() {
+    for (seed, outputs) in [(0u64, SEED_0), (1234567, SEED_1234567)] {
+        let mut state = seed;
+        for output in outputs {
+            state = state.wrapping_add(STEP);
+            line(0, "mix", [state, 0, 0], output);
+        }
+    }
+    line(0, "mix", [0, 0, 0], 0);
+    line(1, "sprinkle_key", [2, 5, 0], (1 << 62) + (1 << 60) + 5);
+}
