@@ -15,3 +15,6 @@ pub mod Patterns
 pub mod ToBits
 pub mod Tables
 pub mod PositiveBits
+pub mod Arms
+pub mod Compared
+pub mod Rescaled
