@@ -5,3 +5,5 @@ pub mod LogRises
 pub mod Squares
 pub mod RootNearest
 pub mod LogRungs
+pub mod LogExact
+pub mod RootRises

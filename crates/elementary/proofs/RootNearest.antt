@@ -3,13 +3,14 @@ use mathlib.Core.Path.{_≡_, refl, sym, ap, _∙_, subst, subst⁻¹}
 use mathlib.Core.Logic.{inl, inr}
 use mathlib.Core.Bool.{Bool, true, false, cond}
 use Prim.Native.Nat.{ℕ, suc, _+_, _-_, _*_, _/_, _%_, _^_, _≤_, _<_}
-use native.Mathlib.Nat.{le-trans, lt-of-lt-of-le, lt-of-le-of-lt, not-le-of-lt, lt-trans, le-antisymm, mul-assoc, mul-le-mul-right, mul-lt-mul-of-pos-right, eq-of-mul-eq-mul-right}
+use native.Mathlib.Nat.{le-trans, lt-of-lt-of-le, lt-of-le-of-lt, not-le-of-lt, le-antisymm, le-of-eq, mul-assoc, mul-le-mul-left, mul-le-mul-right, mul-lt-mul-of-pos-right, eq-of-mul-eq-mul-right}
 use native.Mathlib.Omega.{arith}
 use lib.Dec.{T, eqb, leb→le}
-use lib.Pow.{pow-pos}
-use lib.Ieee.{Float, binary32, fits, ofBits, toBits}
+use lib.Pow.{pow-pos, pow-add, pow-mono}
+use lib.Ieee.{Float, nan, inf, fin, binary32, down, fits, ofBits, toBits}
 use lib.Ieee.Bits.{ofBits-toBits}
 use lib.Ieee.Exact.{HasValue}
+use lib.Ieee.Fits.{down-pos}
 use lib.Ieee.Positive.{positive}
 use borrow.Author.Tests.{eqb-true, eqb-false}
 use Rattle.floats.proofs.Compared.{le-or-lt}
@@ -111,18 +112,16 @@ assembled h r k a b =
     (subst (λ (z : ℕ). HasValue (ofBits binary32 ((h + 51) * 8388608 + r)) false (val 8388608 z (((h + 51) * 8388608 + r) % 8388608)) (2 ^ 149)) field v)))
 
 -- m * 2^j in units of 2^-172 is n * 2^(2 h) in units of 2^-196
-argument-value : (b : ℕ) → b < 2139095040 → Parts b → HasValue (ofBits binary32 b) false (scaledOf b * 2 ^ (2 * ((rungOf b + 1) / 2))) (2 ^ 196)
-argument-value b k s =
+pub scaled-value : (b : ℕ) → Parts b → scaledOf b * 2 ^ (2 * ((rungOf b + 1) / 2)) * 2 ^ 149 ≡ amount b * 2 ^ 196
+scaled-value b s =
     let m = digitsOf b in
     let j = rungOf b in
     let h = (j + 1) / 2 in
-    rescale (ofBits binary32 b) false (amount b) (2 ^ 149) (scaledOf b * 2 ^ (2 * h)) (2 ^ 196) (pow-pos 149)
-    (ap (λ (z : ℕ). z * 2 ^ (2 * h) * 2 ^ 149) (scaled-is b)
+    ap (λ (z : ℕ). z * 2 ^ (2 * h) * 2 ^ 149) (scaled-is b)
     ∙ ap (λ (z : ℕ). z * 2 ^ 149) (powers-join m (24 - j % 2) (2 * h))
     ∙ powers-move m (24 - j % 2 + 2 * h) 149 j 173 (same j)
     ∙ ap (λ (z : ℕ). z * 2 ^ 173) (s .value)
-    ∙ powers-join (amount b) 23 173)
-    (bits-value binary32 b k)
+    ∙ powers-join (amount b) 23 173
   where
     same : (j : ℕ) → 24 - j % 2 + 2 * ((j + 1) / 2) + 149 ≡ j + 173
     same j = omega arith
@@ -140,7 +139,7 @@ sqrt-rounds x f p =
       n = scaledOf b;
       r = nearestRoot (scaledOf b);
       h = (rungOf b + 1) / 2;
-      argument = subst (λ (y : Float). HasValue y false (scaledOf b * 2 ^ (2 * ((rungOf b + 1) / 2))) (2 ^ 196)) (ofBits-toBits binary32 x f) (argument-value b k s);
+      argument = subst (λ (y : Float). HasValue y false (scaledOf b * 2 ^ (2 * ((rungOf b + 1) / 2))) (2 ^ 196)) (ofBits-toBits binary32 x f) (rescale (ofBits binary32 b) false (amount b) (2 ^ 149) (scaledOf b * 2 ^ (2 * ((rungOf b + 1) / 2))) (2 ^ 196) (pow-pos 149) (scaled-value b s) (bits-value binary32 b k));
       answer = subst⁻¹ (λ (y : Float). HasValue y false (nearestRoot (scaledOf b) * 2 ^ ((rungOf b + 1) / 2)) (2 ^ 98)) (sqrt-is x p) (assembled ((rungOf b + 1) / 2) (nearestRoot (scaledOf b)) (omega (arith, s .few)) (t .lead) (t .few));
       nearest = nearest-root (scaledOf b) (omega (arith, t .from));
       from = t .from;
@@ -148,3 +147,29 @@ sqrt-rounds x f p =
       lead = t .lead;
       few = t .few;
     }
+
+-- ---- no other float is
+only : (x : Float) (a b c : ℕ) → HasValue x false a c → HasValue x false b c → a ≡ b
+only nan a b c v w = absurd v
+only (inf s) a b c v w = absurd v
+only (fin s m e) a b c v w = eq-of-mul-eq-mul-right (down e) (down-pos e) a b (sym (v .1) ∙ w .1)
+
+steps-le : (n m i j : ℕ) → 2 ^ 46 ≤ n → m < 2 ^ 48 → n * 2 ^ (2 * i) ≤ m * 2 ^ (2 * j) → i ≤ j
+steps-le n m i j N M h = elim (le-or-lt i j) [
+  | inl l ↦ l
+  | inr g ↦ absurd (not-le-of-lt (lt-of-le-of-lt h (lt-of-lt-of-le (mul-lt-mul-of-pos-right M (pow-pos (2 * j))) four)) (le-trans (mul-le-mul-left (2 ^ 46) (pow-mono (next i j g))) (mul-le-mul-right (2 ^ (2 * i)) N)))
+]
+  where
+    next : (i j : ℕ) → j < i → 2 + 2 * j ≤ 2 * i
+    next i j h = omega arith
+
+    four : 2 ^ 48 * 2 ^ (2 * j) ≤ 2 ^ 46 * 2 ^ (2 + 2 * j)
+    four = le-of-eq (mul-assoc (2 ^ 46) (2 ^ 2) (2 ^ (2 * j)) ∙ ap (λ (z : ℕ). 2 ^ 46 * z) (sym (pow-add 2 2 (2 * j))))
+
+pub rounded-unique : (x y z : Float) → T (fits binary32 y) → T (fits binary32 z) → Rounded x y → Rounded x z → y ≡ z
+rounded-unique x y z f g p q =
+    let e : p .n * 2 ^ (2 * p .h) ≡ q .n * 2 ^ (2 * q .h) = only x _ _ (2 ^ 196) (p .argument) (q .argument) in
+    let h : p .h ≡ q .h = le-antisymm (steps-le (p .n) (q .n) (p .h) (q .h) (p .from) (q .to) (le-of-eq e)) (steps-le (q .n) (p .n) (q .h) (p .h) (q .from) (p .to) (le-of-eq (sym e))) in
+    let n : p .n ≡ q .n = eq-of-mul-eq-mul-right (2 ^ (2 * q .h)) (pow-pos (2 * q .h)) (p .n) (q .n) (ap (λ (k : ℕ). p .n * 2 ^ (2 * k)) (sym h) ∙ e) in
+    let r : p .r ≡ q .r = nearest-unique (q .n) (p .r) (q .r) (subst (λ (k : ℕ). Nearest k (p .r)) n (p .nearest)) (q .nearest) in
+    unique binary32 y z false (q .r * 2 ^ q .h) (2 ^ 98) (pow-pos 98) f g (subst (λ (k : ℕ). HasValue y false (k * 2 ^ q .h) (2 ^ 98)) r (subst (λ (k : ℕ). HasValue y false (p .r * 2 ^ k) (2 ^ 98)) h (p .answer))) (q .answer)

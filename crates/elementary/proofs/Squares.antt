@@ -135,3 +135,10 @@ settled n (suc i) p h k =
   where
     less : (i : ℕ) → suc i - 1 ≡ i
     less i = omega arith
+
+-- the root of a square
+pub perfect : (r : ℕ) → 0 < r → Nearest (square r) r
+perfect r p = settled (square r) r p (omega (arith, mul-add r (r - 1) 1, ap (λ (z : ℕ). r * z) (restored r p))) (omega (arith, mul-add r r 1))
+  where
+    restored : (r : ℕ) → 0 < r → r - 1 + 1 ≡ r
+    restored r p = omega arith

@@ -5,11 +5,12 @@ use mathlib.Core.Bool.{Bool, true, false, not, _&&_, _||_, Bool·beq, true≢fal
 use Prim.Native.Nat.{ℕ, zero, suc, _+_, _*_, _≤_, _<_}
 use native.Mathlib.Nat.{mul-pos, zero-mul, zero-lt-suc, mul-one}
 use native.Mathlib.Omega.{arith}
-use lib.IntN.{pos}
-use lib.Dec.{T, ltb, eqb, ltb→lt, lt→ltb}
+use lib.IntN.{ℤ, pos}
+use lib.Pow.{pow-pos}
+use lib.Dec.{T, ltb, eqb, eqb→eq, ltb→lt, lt→ltb}
 use lib.Ieee.{Float, nan, inf, fin, up, down, isNan, lt, le, eq, level}
-use lib.Ieee.Fits.{up-pos, down-pos}
-use lib.Ieee.Positive.{positive}
+use lib.Ieee.Fits.{up-pos, and-l}
+use lib.Ieee.Positive.{positive, above, above-of-le}
 use borrow.Author.Tests.{ltb-false, lt-ltb, le-ltb, eq-eqb, ne-eqb}
 
 abbrev pub nought : Float
@@ -69,3 +70,52 @@ above-zero (fin false m e) h = inl (lt→ltb 0 m (some m (up e) (ltb→lt (0 * 1
         none : (a b : ℕ) → b ≡ 0 → a < b → ⊥
         none a b p h = omega arith
     some (suc m) u h = zero-lt-suc m
+
+-- ---- at zero or above: a zero, finite above zero, or infinity
+pub data Level (x : Float) : Type 0 where
+  none : eq x nought ≡ true → lt x nought ≡ false → isNan x ≡ false → Level x
+  some : T (positive x) → Level x
+  most : x ≡ inf false → Level x
+
+zero-level : (s : Bool) (e : ℤ) → Level (fin s 0 e)
+unfolding isNan lt eq
+zero-level true e = none (level-zeros true (0 * up e * 1) (0 * 1 * down e) (zero-left (up e) 1) (zero-left 1 (down e))) (rw (zero-left (up e) 1, zero-left 1 (down e))) refl
+zero-level false e = none (level-zeros false (0 * up e * 1) (0 * 1 * down e) (zero-left (up e) 1) (zero-left 1 (down e))) (rw (zero-left (up e) 1, zero-left 1 (down e))) refl
+
+pub at-least-zero : (x : Float) → T (le nought x) → Level x
+unfolding le lt eq
+at-least-zero nan h = absurd h
+at-least-zero (inf true) h = absurd h
+at-least-zero (inf false) h = most refl
+at-least-zero (fin s zero e) h = zero-level s e
+at-least-zero (fin false (suc m) e) h = some (lt→ltb 0 (suc m) (zero-lt-suc m))
+at-least-zero (fin true (suc m) e) h = absurd (none' (0 * 1 * down e) (suc m * up e * 1) (zero-left 1 (down e)) (mul-pos (mul-pos (zero-lt-suc m) (up-pos e)) (pow-pos 0)) (eqb→eq (0 * 1 * down e) (suc m * up e * 1) (and-l (eqb (0 * 1 * down e) (suc m * up e * 1)) (eqb (0 * 1 * down e) 0) h)))
+  where
+    none' : (a b : ℕ) → a ≡ 0 → 0 < b → a ≡ b → ⊥
+    none' a b p q e = omega arith
+
+-- ---- infinity is the largest
+pub under-infinity : (x : Float) → isNan x ≡ false → T (le x (inf false))
+unfolding isNan le lt eq
+under-infinity nan h = absurd (true≢false h)
+under-infinity (inf true) h = tt
+under-infinity (inf false) h = tt
+under-infinity (fin s m e) h = tt
+
+pub infinity-top : (y : Float) → T (le (inf false) y) → y ≡ inf false
+unfolding le lt eq
+infinity-top nan h = absurd h
+infinity-top (inf true) h = absurd h
+infinity-top (inf false) h = refl
+infinity-top (fin s m e) h = absurd h
+
+-- what a finite number above zero is at most is that or infinity
+pub rises-to : (x y : Float) → T (positive x) → T (le x y) → T (positive y) ⊎ (y ≡ inf false)
+rises-to x y p h = above-is y (above-of-le x y p h)
+  where
+    above-is : (y : Float) → T (above y) → T (positive y) ⊎ (y ≡ inf false)
+    above-is nan h = absurd h
+    above-is (inf true) h = absurd h
+    above-is (inf false) h = inr refl
+    above-is (fin true m e) h = absurd h
+    above-is (fin false m e) h = inl h
