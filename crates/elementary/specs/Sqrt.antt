@@ -34,7 +34,7 @@ nearestRoot n = middlesBelow n n
 unfoldable pub scaledOf : ℕ → ℕ
 scaledOf b = cond (eqb (rungOf b % 2) 1) (digitsOf b * 8388608) (digitsOf b * 16777216)
 
--- the pattern of its root
+-- the pattern of its root; r's leading digit, 2^23, adds one to the exponent's field
 unfoldable pub rootBits : ℕ → ℕ
 rootBits b = ((rungOf b + 1) / 2 + 51) * 8388608 + nearestRoot (scaledOf b)
 

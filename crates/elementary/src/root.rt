@@ -19,12 +19,12 @@ fn guess(n: u64) -> u64
     }
 }
 
-// A step of Newton's method.
+// A step of Newton's method, to the nearest whole number: the loops below then seldom turn.
 fn step(n: u64, g: u64) -> u64
     requires { ⌜ (n < 281474976710656) × (1048576 ≤ g) × (g < 1073741824) ⌝ }
-    ensures { λ r. ⌜ (2 * r ≤ g + 268435456) × (g ≤ 2 * r + 1) ⌝ }
+    ensures { λ r. ⌜ (2 * r ≤ g + 268435457) × (g ≤ 2 * r) ⌝ }
 {
-    (g + n / g) / 2
+    (g + n / g + 1) / 2
 }
 
 // The guess is right or next to it; the loops make it right: r * (r - 1) < n <= r * (r + 1).

@@ -17,8 +17,11 @@ div-result c = search needs
 add-result : tie.Need-add-result
 add-result c = omega (arith, quotient-le (c .args .n) (c .args .g) (c .pre .0) (c .pre .1))
 
+add-result-2 : tie.Need-add-result-2
+add-result-2 c = omega (arith, quotient-le (c .args .n) (c .args .g) (c .pre .0) (c .pre .1))
+
 returns : tie.Need-returns
 returns c = (omega (arith, quotient-le (c .args .n) (c .args .g) (c .pre .0) (c .pre .1)), omega arith)
 
 pub step-spec : {M : Type 1} → statement M
-step-spec = tie.close (tie.spec div-result add-result returns)
+step-spec = tie.close (tie.spec div-result add-result add-result-2 returns)
