@@ -1,9 +1,9 @@
 -- The cells of log2: one test of the table, and from it the bounds of the integer steps and that they keep the order.
-use mathlib.Core.Path.{_≡_, refl, sym, subst, subst⁻¹}
+use mathlib.Core.Path.{_≡_, sym, subst, subst⁻¹}
 use mathlib.Core.Logic.{inl, inr}
 use mathlib.Core.Bool.{Bool, _&&_, cond}
 use Prim.Native.Nat.{ℕ, zero, suc, _+_, _-_, _*_, _/_, _%_, _≤_, _<_}
-use native.Mathlib.Nat.{le-of-eq, le-trans, lt-of-le-of-lt, eq-or-lt-of-le, mul-le-mul, mul-le-mul-left, mul-le-mul-right, le-of-suc-le-suc, not-suc-le-zero, one-mul}
+use native.Mathlib.Nat.{le-of-eq, le-trans, eq-or-lt-of-le, mul-le-mul, mul-le-mul-left, mul-le-mul-right, le-of-suc-le-suc, not-suc-le-zero, one-mul}
 use native.Mathlib.Omega.{arith}
 use lib.Dec.{T, leb, ltb, leb→le}
 use lib.Ieee.Fits.{and-l, and-r}

@@ -2,7 +2,7 @@
 use mathlib.Core.Path.{_≡_, refl, sym, ap, _∙_}
 use mathlib.Core.Bool.{Bool, true, false, cond}
 use Prim.Native.Nat.{ℕ, _<_}
-use lib.IntN.{ℤ, pos, negsuc}
+use lib.IntN.{pos}
 use lib.Dec.{T, eqb, eqb→eq}
 use lib.Count.{leadingZeros, trailingZeros}
 use lib.Ieee.{Float, nan, inf, fin, binary32, fits, isNan, lt, eq, minus, toBits, round, sum, add, sub, neg, mul, ofInt, ofBits, ofFields, size, span, climb, units, odd}

@@ -19,7 +19,7 @@ use Rattle.floats.proofs.PositiveBits.{positive-above, positive-under}
 use Rattle.floats.proofs.Rescaled.{rescale, powers-join, powers-move}
 use Rattle.floats.proofs.Values.{unique}
 use Rattle.elementary.specs.Rung.{rungOf, digitsOf}
-use Rattle.elementary.specs.Sqrt.{square, Nearest, nearestRoot, scaledOf, rootBits, sqrtOf, Rounded}
+use Rattle.elementary.specs.Sqrt.{Nearest, nearestRoot, scaledOf, rootBits, sqrtOf, Rounded}
 use Rattle.elementary.proofs.Rungs.{amount, Parts, parts}
 use Rattle.elementary.proofs.Squares.{squares-le, nearest-unique, nearest-root}
 use Rattle.elementary.proofs.Tested.{passed}

@@ -2,8 +2,8 @@
 use mathlib.Core.Path.{_≡_, refl, sym, ap, _∙_, subst, subst⁻¹}
 use mathlib.Core.Logic.{inl, inr}
 use mathlib.Core.Bool.{Bool, true, false, cond, _||_}
-use Prim.Native.Nat.{ℕ, zero, suc, _+_, _-_, _*_, _/_, _^_, _≤_, _<_}
-use native.Mathlib.Nat.{le-of-eq, mul-pos, mul-le-mul-right, le-of-mul-le-mul-right, lt-of-lt-of-le, eq-or-lt-of-le}
+use Prim.Native.Nat.{ℕ, _+_, _-_, _*_, _/_, _^_, _≤_, _<_}
+use native.Mathlib.Nat.{mul-pos, mul-le-mul-right, le-of-mul-le-mul-right, lt-of-lt-of-le, eq-or-lt-of-le}
 use native.Mathlib.Nat as N
 use native.Mathlib.Omega.{arith}
 use lib.IntN.{pos, negsuc}
@@ -12,16 +12,16 @@ use lib.Pow.{pow-pos}
 use lib.Ieee.{Float, nan, inf, fin, binary32, fits, isNan, lt, eq, le, up, down, ofBits, toBits}
 use lib.Ieee.Bits.{ofBits-fits}
 use lib.Ieee.Fits.{nan-fits, up-pos}
-use lib.Ieee.Positive.{positive, positive-finite, above, above-of-le}
+use lib.Ieee.Positive.{positive, positive-finite}
 use lib.Ieee.Scale.{finite}
 use Rattle.floats.proofs.Patterns.{val-mono, bits-mono}
 use Rattle.floats.proofs.PositiveBits.{positive-above, positive-under, pattern-positive}
 use Rattle.floats.proofs.Rules.{le-trans}
 use Rattle.floats.proofs.ToBits.{toBits-mono}
 use Rattle.elementary.specs.Rung.{rungOf, digitsOf}
-use Rattle.elementary.specs.Sqrt.{square, Nearest, nearestRoot, scaledOf, rootBits, sqrtOf}
-use Rattle.elementary.proofs.RootNearest.{sqrt-is, Scaled, scaled, scaled-value}
-use Rattle.elementary.proofs.Rungs.{amount, parts, under}
+use Rattle.elementary.specs.Sqrt.{square, nearestRoot, scaledOf, rootBits, sqrtOf}
+use Rattle.elementary.proofs.RootNearest.{sqrt-is, scaled, scaled-value}
+use Rattle.elementary.proofs.Rungs.{parts, under}
 use Rattle.elementary.proofs.Squares.{root-is, root-mono, perfect}
 use Rattle.elementary.proofs.Tested.{nought, passed, Level, none, some, most, at-least-zero, under-infinity, infinity-top, rises-to}
 

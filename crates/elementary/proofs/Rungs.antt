@@ -1,6 +1,6 @@
 -- The rung and the digits of a finite f32 above zero: their ranges, the number that they stand for, and that they rise with the pattern.
-use mathlib.Core.Path.{_≡_, refl, sym, ap, _∙_, subst, subst⁻¹}
-use mathlib.Core.Logic.{_⊎_, inl, inr}
+use mathlib.Core.Path.{_≡_, sym, ap, _∙_, subst}
+use mathlib.Core.Logic.{inl, inr}
 use Prim.Native.Nat.{ℕ, zero, suc, _+_, _-_, _*_, _/_, _%_, _^_, _≤_, _<_}
 use native.Mathlib.Nat.{le-trans, le-of-eq, lt-of-lt-of-le, lt-of-le-of-lt, not-le-of-lt, not-suc-le-zero, mul-assoc, mul-one, add-comm, mul-le-mul-left, mul-le-mul-right, mul-lt-mul-of-pos-right, le-of-mul-le-mul-right, mod-eq-of-lt, div-eq-of-lt, pow-succ'}
 use native.Mathlib.Omega.{arith}

@@ -1,9 +1,9 @@
 -- The whole number nearest to a root, by squares: there is one for every number above zero and no tie, it is the count that `nearestRoot` takes, and it rises.
-use mathlib.Core.Path.{_≡_, refl, sym, ap, _∙_, subst, subst⁻¹}
+use mathlib.Core.Path.{_≡_, refl, ap, subst, subst⁻¹}
 use mathlib.Core.Logic.{inl, inr}
 use mathlib.Core.Bool.{Bool, true, false, cond}
 use Prim.Native.Nat.{ℕ, zero, suc, _+_, _-_, _*_, _≤_, _<_}
-use native.Mathlib.Nat.{le-trans, lt-of-lt-of-le, lt-of-le-of-lt, lt-irrefl, lt-trans, le-antisymm, le-of-suc-le-suc, mul-le-mul, mul-add, add-mul, mul-mul-mul-comm, not-suc-le-zero, eq-or-lt-of-le, mul-comm}
+use native.Mathlib.Nat.{le-trans, lt-of-lt-of-le, lt-of-le-of-lt, lt-irrefl, lt-trans, le-antisymm, mul-le-mul, mul-add, add-mul, mul-mul-mul-comm, not-suc-le-zero, eq-or-lt-of-le, mul-comm}
 use native.Mathlib.Numerals.{add-one}
 use native.Mathlib.Omega.{arith}
 use lib.Dec.{ltb}

@@ -5,7 +5,7 @@
 --   4. r is the whole number nearest to the root of n: (2 r - 1)^2 < 4 n < (2 r + 1)^2. No tie is possible, for 4 n is even and an odd number's square is odd.
 --   5. The answer is r * 2^e, whose exponent field is (j + 1) / 2 + 52, since r lies from 2^23 to below 2^24.
 use Prim.Native.Nat.{ℕ, zero, suc, _+_, _-_, _*_, _/_, _%_, _^_, _≤_, _<_}
-use mathlib.Core.Bool.{true, false, cond}
+use mathlib.Core.Bool.{false, cond}
 use lib.IntN.{pos}
 use lib.Dec.{ltb, eqb}
 use lib.Ieee.{Float, nan, inf, fin, binary32, isNan, lt, eq, ofBits, toBits}

@@ -1,6 +1,6 @@
 // log2 of an f32: 64 parabolas for the digits, then the exponent. Operation for operation as
-// specs/Log2.antt lists it. It never falls, it is exact at the powers of two, and over all arguments
-// it is within 0.67 of the larger of two spacings and 2^-22.
+// specs/Log2.antt lists it. Proved: it never falls, and it is exact at the powers of two. Measured
+// over every argument: its error is at most 0.67 of the larger of two spacings and 2^-22.
 ghost use mathlib.Core.Path.{_≡_};
 ghost use Prim.Native.Nat.{_<_};
 ghost use Rattle.elementary.specs.Log2.{topOf, slopeOf, bendOf, fractionOf, joinedOf, logOf, log2Of};

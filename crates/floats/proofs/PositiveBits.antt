@@ -1,5 +1,5 @@
 -- The patterns of the finite values above zero, over the format: they lie from 1 to below an infinity's, and each pattern there is one's.
-use mathlib.Core.Path.{_≡_, refl, sym, ap, _∙_, subst, subst⁻¹}
+use mathlib.Core.Path.{_≡_, refl, sym, subst, subst⁻¹}
 use mathlib.Core.Bool.{true, false}
 use Prim.Native.Nat.{ℕ, zero, suc, _+_, _-_, _*_, _/_, _%_, _^_, _≤_, _<_}
 use native.Mathlib.Nat.{le-trans, le-of-eq, lt-of-lt-of-le, mul-le-mul-right, mul-pos, div-one, one-mul, zero-mul, zero-lt-suc, add-mul, div-add-mod', le-div-iff-mul-le}

@@ -1,8 +1,9 @@
--- The loops settle the root whatever the guess: the first brings it down below its upper middle's square, the second up.
+-- The loops settle the root whatever the guess: the first lowers it until the middle below it is below the root, the second raises it until
+-- the middle above it is not.
 use mathlib.Core.Path.{_≡_, sym, subst, subst⁻¹}
 use mathlib.Core.Logic.{⊎-elim}
 use Prim.Native.Nat.{ℕ, zero, suc, _+_, _-_, _*_, _≤_, _<_}
-use native.Mathlib.Nat.{le-trans, lt-of-le-of-lt, mul-le-mul, mul-comm, not-le-of-lt, not-suc-le-zero}
+use native.Mathlib.Nat.{le-trans, mul-le-mul, mul-add, add-mul, suc-mul, not-le-of-lt}
 use native.Mathlib.Omega.{arith}
 use borrow.Author.Needs.{needs}
 use Rattle.floats.proofs.Compared.{le-or-lt}
@@ -38,16 +39,10 @@ root-le (suc a) n h k = ⊎-elim (λ p. absurd (not-le-of-lt k (le-trans (mul-le
     less a = omega arith
 
     under : (a n : ℕ) → suc a * a < n → a * a ≤ n
-    under a n h = omega (arith, mul-le-mul (wider a) (same a))
-      where
-        wider : (a : ℕ) → a ≤ suc a
-        wider a = omega arith
+    under a n h = omega (arith, suc-mul a a)
 
-        same : (a : ℕ) → a ≤ a
-        same a = omega arith
-
-next : (n r : ℕ) → r * (r + 1) < n → (r + 1) * (r + 1 - 1) < n
-next n r h = subst⁻¹ (λ (z : ℕ). (r + 1) * z < n) (less r) (subst⁻¹ (λ (z : ℕ). z < n) (mul-comm (r + 1) r) h)
+next : (n r : ℕ) → r * r + r < n → (r + 1) * (r + 1 - 1) < n
+next n r h = subst⁻¹ (λ (z : ℕ). (r + 1) * z < n) (less r) (omega (arith, add-mul r 1 r))
   where
     less : (r : ℕ) → r + 1 - 1 ≡ r
     less r = omega arith
@@ -85,8 +80,9 @@ loop2-holds c = (c .before .loop .inv .0, c .loop-test .left)
 at : (c : tie.At-loop2 Inv-loop μ-loop Inv-loop2 μ-loop2) → c .loop2 .r ≤ 16777216
 at c = root-le (c .loop2 .r) _ (c .loop2 .inv .1) (c .before .before .before .before .before .before .pre .1)
 
-more : (c : tie.In-loop2 Inv-loop μ-loop Inv-loop2 μ-loop2) → c .before .loop2 .r + 1 ≤ 16777216
-more c = root-le (c .before .loop2 .r + 1) _ (next _ _ (c .loop2-test .taken)) (c .before .before .before .before .before .before .before .pre .1)
+-- a turn of the second loop leaves a root that is not too large
+more : (c : tie.In-loop2 Inv-loop μ-loop Inv-loop2 μ-loop2) → (c .before .loop2 .r + 1) * (c .before .loop2 .r + 1 - 1) < c .before .before .before .before .before .before .before .args .n
+more c = next _ _ (omega (arith, simp mul-add at (c .loop2-test .taken)))
 
 add-loop2 : tie.Need-add-loop2 Inv-loop μ-loop Inv-loop2 μ-loop2
 add-loop2 c = omega (arith, at c)
@@ -98,10 +94,10 @@ add-r : tie.Need-add-r Inv-loop μ-loop Inv-loop2 μ-loop2
 add-r c = omega (arith, at (c .before))
 
 loop2-less : tie.Need-loop2-less Inv-loop μ-loop Inv-loop2 μ-loop2
-loop2-less c = omega (arith, more c)
+loop2-less c = omega (arith, root-le _ _ (more c) (c .before .before .before .before .before .before .before .pre .1))
 
 loop2-again : tie.Need-loop2-again Inv-loop μ-loop Inv-loop2 μ-loop2
-loop2-again c = (omega arith, next _ _ (c .loop2-test .taken))
+loop2-again c = (omega arith, more c)
 
 returns : tie.Need-returns Inv-loop μ-loop Inv-loop2 μ-loop2
 returns c = sym (root-is _ _ (settled _ _ (c .before .loop2 .inv .0) (c .before .loop2 .inv .1) (c .loop2-test .left)))

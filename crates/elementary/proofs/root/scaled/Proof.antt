@@ -1,9 +1,7 @@
-use mathlib.Core.Path.{_≡_, refl}
 use Prim.Native.Nat.{_<_}
 use native.Mathlib.Omega.{arith}
 use borrow.Author.Needs.{needs}
 use borrow.Author.Tests.{eq-eqb, ne-eqb}
-use Rattle.elementary.specs.Rung.{digitsOf}
 use Rattle.elementary.specs.Sqrt.{scaledOf}
 use Rattle.elementary.proofs.Rungs.{parts}
 use Rattle.elementary.proofs.root.scaled.Statement.{statement}
