@@ -7,3 +7,4 @@ pub mod RootNearest
 pub mod LogRungs
 pub mod LogExact
 pub mod RootRises
+pub mod RootClosest

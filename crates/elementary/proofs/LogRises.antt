@@ -19,7 +19,7 @@ use Rattle.elementary.specs.Rung.{rungOf, digitsOf}
 use Rattle.elementary.specs.Log2.{fractionOf, joinedOf, logOf, log2Of}
 use Rattle.elementary.proofs.LogCells.{fraction-mono, fraction-lt}
 use Rattle.elementary.proofs.LogExact.{log2-infinity}
-use Rattle.elementary.proofs.LogRungs.{rung, along, across, upward}
+use Rattle.elementary.proofs.LogRungs.{answer, along, across, upward}
 use Rattle.elementary.proofs.Rungs.{Parts, parts, under}
 use Rattle.elementary.proofs.Tested.{nought, passed, above-zero, under-infinity, infinity-top, rises-to}
 
@@ -29,9 +29,9 @@ unfolding log2Of
 log-is x p = let t = passed x p in rw (t .number, t .above, t .some, t .less)
 
 -- ---- over patterns
-log-rung : (b : ℕ) → logOf b ≡ rung (rungOf b) (fractionOf (digitsOf b - 8388608))
+log-answer : (b : ℕ) → logOf b ≡ answer (rungOf b) (fractionOf (digitsOf b - 8388608))
 unfolding logOf joinedOf
-log-rung b = refl
+log-answer b = refl
 
 past-lt : {b : ℕ} → Parts b → digitsOf b - 8388608 < 8388608
 past-lt s = omega (arith, s .from, s .to)
@@ -43,9 +43,9 @@ patterns-rise b c p h k =
     let u = under b c p h k in
     let f = fraction-lt (digitsOf b - 8388608) (past-lt s) in
     let g = fraction-lt (digitsOf c - 8388608) (past-lt t) in
-    rw (log-rung b, log-rung c)
+    rw (log-answer b, log-answer c)
     (elim (eq-or-lt-of-le (u .rungs)) [
-      | inl e ↦ subst (λ (j : ℕ). T (le (rung (rungOf b) (fractionOf (digitsOf b - 8388608))) (rung j (fractionOf (digitsOf c - 8388608))))) e
+      | inl e ↦ subst (λ (j : ℕ). T (le (answer (rungOf b) (fractionOf (digitsOf b - 8388608))) (answer j (fractionOf (digitsOf c - 8388608))))) e
           (along (rungOf b) (fractionOf (digitsOf b - 8388608)) (fractionOf (digitsOf c - 8388608)) (s .few) (fraction-mono (less (digitsOf b) (digitsOf c) (u .digits e)) (past-lt t)) g)
       | inr l ↦ across (rungOf b) (rungOf c) (fractionOf (digitsOf b - 8388608)) (fractionOf (digitsOf c - 8388608)) l (t .few) f g
     ])
@@ -60,15 +60,15 @@ least = fin true 149 (pos 0)
 abbrev pub most : Float
 most = fin false 1 (pos 7)
 
-first-is : rung 0 0 ≡ least
+first-is : answer 0 0 ≡ least
 unfolding sub add neg sum round size span climb units odd trailingZeros ofInt ofBits ofFields mul
 first-is = refl
 
-last-is : rung 277 0 ≡ most
+last-is : answer 277 0 ≡ most
 unfolding sub add neg sum round size span climb units odd trailingZeros ofInt ofBits ofFields mul
 last-is = refl
 
-from-first : (j f : ℕ) → j < 277 → f < 16777216 → T (le (rung 0 0) (rung j f))
+from-first : (j f : ℕ) → j < 277 → f < 16777216 → T (le (answer 0 0) (answer j f))
 from-first zero f h k = along 0 0 f h zero-le k
 from-first (suc j) f h k = across 0 (suc j) 0 f (omega arith) h (pow-pos 24) k
 
@@ -82,7 +82,7 @@ within x f p =
     let b = toBits binary32 x in
     let s = parts b (positive-above binary32 x f p) (positive-under binary32 x f p) in
     let k = fraction-lt (digitsOf b - 8388608) (past-lt s) in
-    let e : log2Of x ≡ rung (rungOf b) (fractionOf (digitsOf b - 8388608)) = log-is x p ∙ log-rung b in
+    let e : log2Of x ≡ answer (rungOf b) (fractionOf (digitsOf b - 8388608)) = log-is x p ∙ log-answer b in
     let lo : T (le least (log2Of x)) = rw (e, ← first-is) (from-first (rungOf b) (fractionOf (digitsOf b - 8388608)) (s .few) k) in
     let hi : T (le (log2Of x) most) = rw (e, ← last-is) (upward (rungOf b) 277 (fractionOf (digitsOf b - 8388608)) (s .few) (leb→le 278 278 tt) k) in
     record { from = lo; to = hi; finite = between-finite binary32 least (log2Of x) most tt tt lo hi }

@@ -1,4 +1,4 @@
--- The floats that log2 answers, `rung j f`: j - 149 and f units of 2^-24. They rise with f, and from each j to the next by one computed test.
+-- The floats that log2 answers, `answer j f`: j - 149 and f units of 2^-24. They rise with f, and from each j to the next by one computed test.
 use mathlib.Core.Path.{_≡_, refl, sym, ap, _∙_, subst⁻¹}
 use mathlib.Core.Logic.{inl, inr}
 use mathlib.Core.Bool.{Bool, false, _&&_}
@@ -60,11 +60,11 @@ part-finite f h = value-finite (part f) false f (2 ^ 24) (part-value f h)
 abbrev whole : ℕ → Float
 whole j = sub binary32 (ofInt binary32 (pos j)) (ofBits binary32 0x43150000)
 
-abbrev pub rung : ℕ → ℕ → Float
-rung j f = add binary32 (part f) (whole j)
+abbrev pub answer : ℕ → ℕ → Float
+answer j f = add binary32 (part f) (whole j)
 
 unfoldable climbs : ℕ → Bool
-climbs j = finite (whole j) && le (rung j 16777215) (rung (suc j) 0)
+climbs j = finite (whole j) && le (answer j 16777215) (answer (suc j) 0)
 
 all-climb : T (all climbs 277)
 unfolding climbs sub add neg sum round size span climb units odd trailingZeros ofInt ofBits ofFields mul le lt eq
@@ -72,35 +72,35 @@ all-climb = tt
 
 whole-finite : (j : ℕ) → j < 277 → T (finite (whole j))
 unfolding climbs
-whole-finite j h = and-l (finite (whole j)) (le (rung j 16777215) (rung (suc j) 0)) (all-at climbs 277 all-climb j h)
+whole-finite j h = and-l (finite (whole j)) (le (answer j 16777215) (answer (suc j) 0)) (all-at climbs 277 all-climb j h)
 
-climb-one : (j : ℕ) → j < 277 → T (le (rung j 16777215) (rung (suc j) 0))
+climb-one : (j : ℕ) → j < 277 → T (le (answer j 16777215) (answer (suc j) 0))
 unfolding climbs
-climb-one j h = and-r (finite (whole j)) (le (rung j 16777215) (rung (suc j) 0)) (all-at climbs 277 all-climb j h)
+climb-one j h = and-r (finite (whole j)) (le (answer j 16777215) (answer (suc j) 0)) (all-at climbs 277 all-climb j h)
 
 -- on one rung
-pub along : (j f g : ℕ) → j < 277 → f ≤ g → g < 2 ^ 24 → T (le (rung j f) (rung j g))
+pub along : (j f g : ℕ) → j < 277 → f ≤ g → g < 2 ^ 24 → T (le (answer j f) (answer j g))
 along j f g h l k = add-mono binary32 (part f) (part g) (whole j) (part-finite f (N.lt-of-le-of-lt l k)) (part-finite g k) (whole-finite j h) (part-le f g l k)
 
-via : (i f j g k h : ℕ) → T (le (rung i f) (rung j g)) → T (le (rung j g) (rung k h)) → T (le (rung i f) (rung k h))
-via i f j g k h a b = le-trans binary32 (rung i f) (rung j g) (rung k h) (add-fits binary32 (part f) (whole i)) (add-fits binary32 (part g) (whole j)) (add-fits binary32 (part h) (whole k)) a b
+via : (i f j g k h : ℕ) → T (le (answer i f) (answer j g)) → T (le (answer j g) (answer k h)) → T (le (answer i f) (answer k h))
+via i f j g k h a b = le-trans binary32 (answer i f) (answer j g) (answer k h) (add-fits binary32 (part f) (whole i)) (add-fits binary32 (part g) (whole j)) (add-fits binary32 (part h) (whole k)) a b
 
 last : (f : ℕ) → f < 2 ^ 24 → f ≤ 16777215
 last f h = omega arith
 
 -- from any place on a rung to the start of any later one
-pub upward : (i j f : ℕ) → i < j → j < 278 → f < 2 ^ 24 → T (le (rung i f) (rung j 0))
+pub upward : (i j f : ℕ) → i < j → j < 278 → f < 2 ^ 24 → T (le (answer i f) (answer j 0))
 upward i zero f h k l = absurd (not-suc-le-zero h)
 upward i (suc j) f h k l = elim (eq-or-lt-of-le (le-of-suc-le-suc h)) [
-  | inl e ↦ subst⁻¹ (λ (n : ℕ). T (le (rung n f) (rung (suc j) 0))) e (step j f (le-of-suc-le-suc k) l)
+  | inl e ↦ subst⁻¹ (λ (n : ℕ). T (le (answer n f) (answer (suc j) 0))) e (step j f (le-of-suc-le-suc k) l)
   | inr g ↦ via i f j 0 (suc j) 0 (upward i j f g (before j k) l) (step j 0 (le-of-suc-le-suc k) (pow-pos 24))
 ]
   where
     before : (j : ℕ) → suc j < 278 → j < 278
     before j h = omega arith
 
-    step : (j f : ℕ) → j < 277 → f < 2 ^ 24 → T (le (rung j f) (rung (suc j) 0))
+    step : (j f : ℕ) → j < 277 → f < 2 ^ 24 → T (le (answer j f) (answer (suc j) 0))
     step j f h l = via j f j 16777215 (suc j) 0 (along j f 16777215 h (last f l) (leb→le 16777216 16777216 tt)) (climb-one j h)
 
-pub across : (i j f g : ℕ) → i < j → j < 277 → f < 2 ^ 24 → g < 2 ^ 24 → T (le (rung i f) (rung j g))
+pub across : (i j f g : ℕ) → i < j → j < 277 → f < 2 ^ 24 → g < 2 ^ 24 → T (le (answer i f) (answer j g))
 across i j f g h k l m = via i f j 0 j g (upward i j f h (N.lt-trans k (leb→le 278 278 tt)) l) (along j 0 g k zero-le m)

@@ -7,16 +7,15 @@ use native.Mathlib.Nat.{le-trans, lt-of-lt-of-le, lt-of-le-of-lt, not-le-of-lt, 
 use native.Mathlib.Omega.{arith}
 use lib.Dec.{T, eqb, leb→le}
 use lib.Pow.{pow-pos, pow-add, pow-mono}
-use lib.Ieee.{Float, nan, inf, fin, binary32, down, fits, ofBits, toBits}
+use lib.Ieee.{Float, binary32, fits, ofBits, toBits}
 use lib.Ieee.Bits.{ofBits-toBits}
 use lib.Ieee.Exact.{HasValue}
-use lib.Ieee.Fits.{down-pos}
 use lib.Ieee.Positive.{positive}
 use borrow.Author.Tests.{eqb-true, eqb-false}
 use Rattle.floats.proofs.Compared.{le-or-lt}
 use Rattle.floats.proofs.Patterns.{val, bits-value}
 use Rattle.floats.proofs.PositiveBits.{positive-above, positive-under}
-use Rattle.floats.proofs.Rescaled.{rescale, powers-join, powers-move}
+use Rattle.floats.proofs.Rescaled.{rescale, one-value, powers-join, powers-move}
 use Rattle.floats.proofs.Values.{unique}
 use Rattle.elementary.specs.Rung.{rungOf, digitsOf}
 use Rattle.elementary.specs.Sqrt.{Nearest, nearestRoot, scaledOf, rootBits, sqrtOf, Rounded}
@@ -149,11 +148,6 @@ sqrt-rounds x f p =
     }
 
 -- ---- no other float is
-only : (x : Float) (a b c : ℕ) → HasValue x false a c → HasValue x false b c → a ≡ b
-only nan a b c v w = absurd v
-only (inf s) a b c v w = absurd v
-only (fin s m e) a b c v w = eq-of-mul-eq-mul-right (down e) (down-pos e) a b (sym (v .1) ∙ w .1)
-
 steps-le : (n m i j : ℕ) → 2 ^ 46 ≤ n → m < 2 ^ 48 → n * 2 ^ (2 * i) ≤ m * 2 ^ (2 * j) → i ≤ j
 steps-le n m i j N M h = elim (le-or-lt i j) [
   | inl l ↦ l
@@ -168,7 +162,7 @@ steps-le n m i j N M h = elim (le-or-lt i j) [
 
 pub rounded-unique : (x y z : Float) → T (fits binary32 y) → T (fits binary32 z) → Rounded x y → Rounded x z → y ≡ z
 rounded-unique x y z f g p q =
-    let e : p .n * 2 ^ (2 * p .h) ≡ q .n * 2 ^ (2 * q .h) = only x _ _ (2 ^ 196) (p .argument) (q .argument) in
+    let e : p .n * 2 ^ (2 * p .h) ≡ q .n * 2 ^ (2 * q .h) = one-value x false _ _ (2 ^ 196) (p .argument) (q .argument) in
     let h : p .h ≡ q .h = le-antisymm (steps-le (p .n) (q .n) (p .h) (q .h) (p .from) (q .to) (le-of-eq e)) (steps-le (q .n) (p .n) (q .h) (p .h) (q .from) (p .to) (le-of-eq (sym e))) in
     let n : p .n ≡ q .n = eq-of-mul-eq-mul-right (2 ^ (2 * q .h)) (pow-pos (2 * q .h)) (p .n) (q .n) (ap (λ (k : ℕ). p .n * 2 ^ (2 * k)) (sym h) ∙ e) in
     let r : p .r ≡ q .r = nearest-unique (q .n) (p .r) (q .r) (subst (λ (k : ℕ). Nearest k (p .r)) n (p .nearest)) (q .nearest) in

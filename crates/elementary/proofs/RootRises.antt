@@ -1,5 +1,5 @@
 -- sqrt never falls as its argument rises from zero on; its bounds for callers; its special cases.
-use mathlib.Core.Path.{_≡_, refl, sym, ap, _∙_, subst, subst⁻¹}
+use mathlib.Core.Path.{_≡_, refl, ap, _∙_, subst, subst⁻¹}
 use mathlib.Core.Logic.{inl, inr}
 use mathlib.Core.Bool.{Bool, true, false, cond, _||_}
 use Prim.Native.Nat.{ℕ, _+_, _-_, _*_, _/_, _^_, _≤_, _<_}
@@ -153,10 +153,10 @@ sqrt-finite x f h k = go (at-least-zero x h)
     go (some p) = (positive-finite (sqrtOf x) (root-positive x f p), nought-under (sqrtOf x) (root-positive x f p))
     go (most e) = absurd (subst (λ (z : Float). T (finite z)) e k)
 
--- the root of a square
-square-root : (b r : ℕ) → scaledOf b ≡ square r → 0 < r → ((rungOf b + 1) / 2 + 51) * 8388608 + r ≡ rootBits b
+-- the root of a number whose scaled digits are a square: computed at any such number
+pub square-root : (x : Float) (r : ℕ) → T (positive x) → scaledOf (toBits binary32 x) ≡ square r → 0 < r → sqrtOf x ≡ ofBits binary32 (((rungOf (toBits binary32 x) + 1) / 2 + 51) * 8388608 + r)
 unfolding rootBits
-square-root b r e p = ap (λ (n : ℕ). ((rungOf b + 1) / 2 + 51) * 8388608 + n) (sym (ap nearestRoot e ∙ root-is (square r) r (perfect r p)))
+square-root x r p e q = sqrt-is x p ∙ ap (λ (n : ℕ). ofBits binary32 (((rungOf (toBits binary32 x) + 1) / 2 + 51) * 8388608 + n)) (ap nearestRoot e ∙ root-is (square r) r (perfect r q))
 
 -- 1/256, 1/16, 36 and 6
 abbrev pub lowest : Float
@@ -173,11 +173,11 @@ highest-root = fin false 3 (pos 1)
 
 lowest-is : sqrtOf lowest ≡ lowest-root
 unfolding toBits ofBits scaledOf rungOf digitsOf
-lowest-is = sqrt-is lowest tt ∙ ap (ofBits binary32) (sym (square-root 0x3b800000 8388608 refl (pow-pos 23)))
+lowest-is = square-root lowest 8388608 tt refl (pow-pos 23)
 
 highest-is : sqrtOf highest ≡ highest-root
 unfolding toBits ofBits scaledOf rungOf digitsOf
-highest-is = sqrt-is highest tt ∙ ap (ofBits binary32) (sym (square-root 0x42100000 12582912 refl (leb→le 1 12582912 tt)))
+highest-is = square-root highest 12582912 tt refl (leb→le 1 12582912 tt)
 
 pub sqrt-window : (x : Float) → T (fits binary32 x) → T (le lowest x) → T (le x highest) → T (le lowest-root (sqrtOf x)) × T (le (sqrtOf x) highest-root)
 unfolding fits le lt eq

@@ -113,7 +113,7 @@ pub record Under (b c : ℕ) : Type 0 where
   pub digits : rungOf b ≡ rungOf c → digitsOf b ≤ digitsOf c
 
 module _ (m i n j : ℕ) (M : 8388608 ≤ m) (N : n < 16777216) (h : m * 2 ^ i ≤ n * 2 ^ j) where
-  rungs-le : i ≤ j
+  pub rungs-le : i ≤ j
   rungs-le = elim (le-or-lt i j) [
     | inl l ↦ l
     | inr g ↦ absurd (not-le-of-lt (lt-of-le-of-lt h (lt-of-lt-of-le (mul-lt-mul-of-pos-right N (pow-pos j)) twice)) (le-trans (mul-le-mul-left 8388608 (pow-mono g)) (mul-le-mul-right (2 ^ i) M)))

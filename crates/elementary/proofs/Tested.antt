@@ -8,9 +8,10 @@ use native.Mathlib.Omega.{arith}
 use lib.IntN.{ℤ, pos}
 use lib.Pow.{pow-pos}
 use lib.Dec.{T, eqb, eqb→eq, ltb→lt, lt→ltb}
-use lib.Ieee.{Float, nan, inf, fin, up, down, isNan, lt, le, eq, level}
+use lib.Ieee.{Float, nan, inf, fin, up, down, isNan, ne, lt, le, eq, level}
 use lib.Ieee.Fits.{up-pos, and-l}
 use lib.Ieee.Positive.{positive, above, above-of-le}
+use Rattle.floats.proofs.Facts.{ne-self}
 use borrow.Author.Tests.{ltb-false, le-ltb, ne-eqb}
 
 abbrev pub nought : Float
@@ -29,7 +30,7 @@ level-zeros : (s : Bool) (a b : ℕ) → a ≡ 0 → b ≡ 0 → level s a false
 level-zeros true a b p q = rw (p, q)
 level-zeros false a b p q = rw (p, q)
 
-pub tested : (x : Float) → Passed x → T (positive x)
+tested : (x : Float) → Passed x → T (positive x)
 unfolding isNan lt eq
 tested nan p = absurd (true≢false (p .number))
 tested (inf true) p = absurd (true≢false (p .above))
@@ -40,6 +41,10 @@ tested (fin true (suc m) e) p = absurd (none (suc m * up e) (0 * 1 * down e) (mu
     none : (a b : ℕ) → 0 < a → a * 1 + b ≤ 0 → ⊥
     none a b h k = omega arith
 tested (fin false (suc m) e) p = lt→ltb 0 (suc m) (zero-lt-suc m)
+
+-- as code tests it
+pub past-tests : (x : Float) → ne x x ≡ false → lt x nought ≡ false → eq x nought ≡ false → eq x (inf false) ≡ false → T (positive x)
+past-tests x n a s l = tested x (record { number = sym (ne-self x) ∙ n; above = a; some = s; less = l })
 
 pub passed : (x : Float) → T (positive x) → Passed x
 unfolding isNan lt eq

@@ -7,8 +7,8 @@
 use Prim.Native.Nat.{ℕ, zero, suc, _+_, _-_, _*_, _/_, _%_, _^_, _≤_, _<_}
 use mathlib.Core.Bool.{false, cond}
 use lib.IntN.{pos}
-use lib.Dec.{ltb, eqb}
-use lib.Ieee.{Float, nan, inf, fin, binary32, isNan, lt, eq, ofBits, toBits}
+use lib.Dec.{T, ltb, eqb}
+use lib.Ieee.{Float, nan, inf, fin, binary32, fits, isNan, lt, eq, ofBits, toBits}
 use lib.Ieee.Exact.{HasValue}
 use Rattle.elementary.specs.Rung.{rungOf, digitsOf}
 
@@ -48,8 +48,7 @@ sqrtOf x =
 
 -- ---- what IEEE 754 says of it
 -- y is the root of x, rounded to nearest: x is n * 2^(2 e) and y is r * 2^e, where e is h - 98 and r is the whole number nearest to the root of n.
--- n has 47 or 48 digits, so r has 24, as many as an f32 keeps, and the floats next to y are (r - 1) * 2^e and (r + 1) * 2^e. At r = 2^23
--- the one below y is nearer, but there n is 2^46 or more, so the root is not below y.
+-- n has 47 or 48 digits, so r has 24, as many as an f32 keeps.
 pub record Rounded (x y : Float) : Type 0 where
   pub n : ℕ
   pub r : ℕ
@@ -61,3 +60,13 @@ pub record Rounded (x y : Float) : Type 0 where
   pub to : n < 2 ^ 48
   pub lead : 2 ^ 23 ≤ r
   pub few : r < 2 ^ 24
+
+-- y is nearer to the root of x than any other float z is: the middle of y and z lies on z's side of the root.
+-- In units of 2^-149, of which every f32 is a whole number, y is b and z is c; x is a units of 2^-298.
+pub record Closest (x y : Float) : Type 0 where
+  pub a : ℕ
+  pub b : ℕ
+  pub argument : HasValue x false a (2 ^ 298)
+  pub answer : HasValue y false b (2 ^ 149)
+  pub below : (z : Float) (c : ℕ) → T (fits binary32 z) → HasValue z false c (2 ^ 149) → c < b → square (b + c) < 4 * a
+  pub above : (z : Float) (c : ℕ) → T (fits binary32 z) → HasValue z false c (2 ^ 149) → b < c → 4 * a < square (b + c)

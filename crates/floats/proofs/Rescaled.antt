@@ -6,6 +6,7 @@ use mathlib.Core.Bool.{Bool}
 use lib.Pow.{pow-add}
 use lib.Ieee.{Float, nan, inf, fin, up, down}
 use lib.Ieee.Exact.{HasValue}
+use lib.Ieee.Fits.{down-pos}
 
 pub rescale : (x : Float) (s : Bool) (a c b d : ℕ) → 0 < c → b * c ≡ a * d → HasValue x s a c → HasValue x s b d
 rescale nan s a c b d p h v = v
@@ -19,6 +20,12 @@ rescale (fin t m e) s a c b d p h v = (
       ∙ ap (λ (x : ℕ). x * down e) (sym h)
       ∙ mul-right-comm b c (down e)),
 )
+
+-- one value over one denominator has one numerator
+pub one-value : (x : Float) (s : Bool) (a b c : ℕ) → HasValue x s a c → HasValue x s b c → a ≡ b
+one-value nan s a b c v w = absurd v
+one-value (inf t) s a b c v w = absurd v
+one-value (fin t m e) s a b c v w = eq-of-mul-eq-mul-right (down e) (down-pos e) a b (sym (v .1) ∙ w .1)
 
 pub powers-join : (a i j : ℕ) → a * 2 ^ i * 2 ^ j ≡ a * 2 ^ (i + j)
 powers-join a i j = mul-assoc a (2 ^ i) (2 ^ j) ∙ ap (λ (z : ℕ). a * z) (sym (pow-add 2 i j))

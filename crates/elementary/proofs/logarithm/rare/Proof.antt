@@ -8,7 +8,7 @@ use Rattle.floats.proofs.Facts.{ne-self, no-nan}
 use Rattle.floats.proofs.PositiveBits.{positive-above, positive-under}
 use Rattle.elementary.specs.Log2.{logOf, log2Of}
 use Rattle.elementary.proofs.Rungs.{Parts, parts}
-use Rattle.elementary.proofs.Tested.{tested}
+use Rattle.elementary.proofs.Tested.{past-tests}
 use Rattle.elementary.proofs.LogRises.{log-is}
 use Rattle.elementary.proofs.logarithm.rare.Statement.{statement}
 use Rattle.elementary.proofs.logarithm.rare.Tie as tie
@@ -32,13 +32,7 @@ returns-4 c = rw (sym (ne-self (c .before .before .before .before .args .x)), c 
 -- past the tests x is finite and above zero
 sound : (c : tie.Else4) → T (positive (c .before .before .before .before .args .x))
 unfolding div ofBits
-sound c =
-    tested _ (record {
-      number = sym (ne-self _) ∙ c .before .before .before .if1 .left;
-      above = c .before .before .if2 .left;
-      some = c .before .if3 .left;
-      less = c .if4 .left;
-    })
+sound c = past-tests _ (c .before .before .before .if1 .left) (c .before .before .if2 .left) (c .before .if3 .left) (c .if4 .left)
 
 held : (c : tie.Else4) → T (fits binary32 (c .before .before .before .before .args .x))
 held c = passes _ (c .before .before .before .before .good .0 .1)
