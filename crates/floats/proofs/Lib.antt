@@ -21,3 +21,10 @@ pub mod Bounds
 pub mod Held
 pub mod Euclid
 pub mod Casting
+pub mod Patterns
+pub mod ToBits
+pub mod Tables
+pub mod PositiveBits
+pub mod Arms
+pub mod Compared
+pub mod Rescaled

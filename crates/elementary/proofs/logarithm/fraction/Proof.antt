@@ -1,0 +1,73 @@
+use mathlib.Core.Path.{_≡_}
+use Prim.Native.Nat.{ℕ, _+_, _-_, _*_, _/_, _%_, _≤_, _<_}
+use native.Mathlib.Nat.{le-trans}
+use native.Mathlib.Omega.{arith}
+use Rattle.elementary.specs.Log2.{topOf, slopeOf, bendOf, fallOf, cellOf, fractionOf}
+use Rattle.elementary.proofs.LogCells.{top-le, fall-le, inner-le, bend-le, cell, back, fraction-lt}
+use borrow.Author.Needs.{needs}
+use Rattle.elementary.proofs.logarithm.fraction.Statement.{statement}
+use Rattle.elementary.proofs.logarithm.fraction.Tie as tie
+
+-- the products and sums of the code, by the table's rule
+record Steps (p e s b : ℕ) : Type 0 where
+  bent : b * (131071 - p % 131072) ≤ 4611686018427387903
+  inner : s + b * (131071 - p % 131072) ≤ 4611686018427387903
+  fall : (131071 - p % 131072) * (s + b * (131071 - p % 131072)) ≤ e
+  most : e ≤ 4611686018427387903
+  right : (e - (131071 - p % 131072) * (s + b * (131071 - p % 131072))) / 274877906944 ≡ fractionOf p
+
+steps : (p e s b : ℕ) → p < 8388608 → e ≡ topOf (p / 131072) → s ≡ slopeOf (p / 131072) → b ≡ bendOf (p / 131072) → Steps p e s b
+unfolding fractionOf cellOf fallOf
+steps p e s b h q r t =
+    let i = cell p h in
+    record {
+      bent = rw t (le-trans (bend-le (p / 131072) (131071 - p % 131072) i (back p)) (top-le (p / 131072) i));
+      inner = rw (t, r) (le-trans (inner-le (p / 131072) (131071 - p % 131072) i (back p)) (top-le (p / 131072) i));
+      fall = rw (t, r, q) (fall-le (p / 131072) (131071 - p % 131072) i (back p));
+      most = rw q (top-le (p / 131072) i);
+      right = rw (t, r, q);
+    }
+
+at : (c : tie.After-bend) → Steps (c .before .before .before .args .p) (c .before .before .top .result) (c .before .slope .result) (c .bend .result)
+at c = steps _ _ _ _ (c .before .before .before .pre) (c .before .before .top .ensures) (c .before .slope .ensures) (c .bend .ensures)
+
+sub-t : tie.Need-sub-t
+sub-t c = search needs
+
+top-requires : tie.Need-top-requires
+top-requires c κs = search needs
+
+slope-requires : tie.Need-slope-requires
+slope-requires c κs = search needs
+
+bend-requires : tie.Need-bend-requires
+bend-requires c κs = search needs
+
+mul-result : tie.Need-mul-result
+mul-result c = omega (arith, at c .bent)
+
+add-result : tie.Need-add-result
+add-result c = omega (arith, at c .inner)
+
+mul-result-2 : tie.Need-mul-result-2
+mul-result-2 c = omega (arith, at c .fall, at c .most)
+
+sub-result : tie.Need-sub-result
+sub-result c = at c .fall
+
+returns : tie.Need-returns
+returns c = (at c .right, rw (at c .right) (fraction-lt (c .before .before .before .args .p) (c .before .before .before .pre)))
+
+pub fraction-spec : {M : Type 1} → statement M
+fraction-spec =
+    tie.close
+    (tie.spec
+    sub-t
+    top-requires
+    slope-requires
+    bend-requires
+    mul-result
+    add-result
+    mul-result-2
+    sub-result
+    returns)

@@ -1,0 +1,3 @@
+pub mod Rung
+pub mod Log2
+pub mod Sqrt
