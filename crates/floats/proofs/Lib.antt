@@ -11,3 +11,7 @@ pub mod Rules
 pub mod Sign
 pub mod Words
 pub mod Rem
+pub mod Tables
+pub mod Numbers
+pub mod Patterns
+pub mod ToBits

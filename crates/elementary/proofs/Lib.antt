@@ -1,0 +1,4 @@
+pub mod PlacedRises
+pub mod PlacedAt
+pub mod Edges
+pub mod PowerTable
