@@ -1,13 +1,15 @@
 -- `edged` case by case, and where what stands within never falls and is never below 0, `edged` of it never falls.
-use mathlib.Core.Path.{_≡_, refl, sym, ap, _∙_, subst}
+use mathlib.Core.Path.{_≡_, refl, sym, _∙_, subst, subst⁻¹}
 use mathlib.Core.Bool.{Bool, true, false, not, cond}
 use lib.IntN.{pos}
 use lib.Dec.{T}
-use lib.Ieee.{Float, nan, inf, fin, Format, lt, le, ne, isNan, fits}
+use lib.Ieee.{Float, nan, inf, fin, Format, binary32, binary64, lt, le, eq, ne, isNan, fits}
 use lib.Ieee.Compare.{differs-from-itself}
-use lib.Ieee.Scale.{finite}
+use lib.Ieee.Bits.{is-false}
 use Rattle.floats.proofs.Facts.{ne-self}
-use Rattle.floats.proofs.Numbers.{lt-left-number}
+use Rattle.floats.proofs.Numbers.{lt-left-number, le-left-number, le-right-number}
+use Rattle.floats.proofs.PatternOrder.{le-inf, le-lt, lt-le}
+use Rattle.floats.proofs.Sat.{no}
 use Rattle.elementary.specs.Placed.{edged}
 
 abbrev pub bound : Float
@@ -35,3 +37,48 @@ module _ (g : Float → Float) (x : Float) where
   pub edged-high : isNan x ≡ false → lt x bound ≡ false → edged g x ≡ inf false
   unfolding edged
   edged-high h k = rw (h, k)
+
+-- ---- the law, at either width
+abbrev pub Inside : Float → Type 0
+Inside x = (lt x bound ≡ true) × (lt floor x ≡ true)
+
+module _ (f : Format) (g : Float → Float) (rises : (x y : Float) → T (fits f x) → T (fits f y) → Inside x → Inside y → T (le x y) → T (le (g x) (g y))) (positive : (x : Float) → T (fits f x) → Inside x → T (le nought (g x))) where
+  bound-fits : (f : Format) → T (fits f bound)
+  unfolding fits
+  bound-fits binary32 = tt
+  bound-fits binary64 = tt
+
+  floor-fits : (f : Format) → T (fits f floor)
+  unfolding fits
+  floor-fits binary32 = tt
+  floor-fits binary64 = tt
+
+  some-number : (x y : Float) → x ≡ y → T (not (isNan y)) → T (not (isNan x))
+  some-number x y e u = subst⁻¹ (λ (z : Float). T (not (isNan z))) e u
+
+  pub edged-number : (x : Float) → T (fits f x) → T (not (isNan x)) → T (not (isNan (edged g x)))
+  unfolding isNan
+  edged-number x p u = go (lt x bound) (lt floor x) refl refl
+    where
+      go : (a b : Bool) → lt x bound ≡ a → lt floor x ≡ b → T (not (isNan (edged g x)))
+      go true true h k = some-number (edged g x) (g x) (edged-within g x h k) (le-right-number nought (g x) (positive x p (h, k)))
+      go true false h k = some-number (edged g x) nought (edged-low g x h k) tt
+      go false b h k = some-number (edged g x) (inf false) (edged-high g x (is-false (isNan x) u) h) tt
+
+  pub edged-rises : (x y : Float) → T (fits f x) → T (fits f y) → T (le x y) → T (le (edged g x) (edged g y))
+  unfolding le lt eq
+  edged-rises x y p q l = go (lt x bound) (lt floor x) (lt y bound) (lt floor y) refl refl refl refl
+    where
+      under : lt y bound ≡ true → lt x bound ≡ false → ⊥
+      under h k = no (sym k ∙ le-lt f x y bound p q (bound-fits f) l h)
+
+      over : lt floor x ≡ true → lt floor y ≡ false → ⊥
+      over h k = no (sym k ∙ lt-le f floor x y (floor-fits f) p q h l)
+
+      go : (a b c d : Bool) → lt x bound ≡ a → lt floor x ≡ b → lt y bound ≡ c → lt floor y ≡ d → T (le (edged g x) (edged g y))
+      go a b false d h k h' k' = subst⁻¹ (λ (z : Float). T (le (edged g x) z)) (edged-high g y (is-false (isNan y) (le-right-number x y l)) h') (le-inf (edged g x) (edged-number x p (le-left-number x y l)))
+      go false b true d h k h' k' = absurd (under h' h)
+      go true true true false h k h' k' = absurd (over k k')
+      go true true true true h k h' k' = rw (edged-within g x h k, edged-within g y h' k') (rises x y p q (h, k) (h', k') l)
+      go true false true true h k h' k' = rw (edged-low g x h k, edged-within g y h' k') (positive y q (h', k'))
+      go true false true false h k h' k' = rw (edged-low g x h k, edged-low g y h' k') tt

@@ -15,3 +15,4 @@ pub mod Tables
 pub mod Numbers
 pub mod Patterns
 pub mod ToBits
+pub mod PatternOrder

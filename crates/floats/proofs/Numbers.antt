@@ -1,17 +1,17 @@
--- Over the format: which operations give a number and no NaN, and a product with a positive number goes up with its other factor.
+-- Over the format: which operations give a number and no NaN, and a product with a positive number, or a quotient by one, goes up with the other operand.
 use Prim.Native.Nat.{ℕ, zero, suc, _+_, _*_}
 use mathlib.Core.Path.{_≡_, refl, subst, subst⁻¹}
 use mathlib.Core.Bool.{Bool, true, false, not, _||_}
 use lib.IntN.{ℤ}
-use lib.Dec.{T}
-use lib.Ieee.{Float, nan, inf, fin, Format, up, down, add, mul, unlike, lt, le, eq, isNan}
-use lib.Ieee.Fits.{mul-fits}
+use lib.Dec.{T, eqb·suc-zero}
+use lib.Ieee.{Float, nan, inf, fin, Format, up, down, add, mul, div, unlike, lt, le, eq, isNan}
+use lib.Ieee.Fits.{mul-fits, div-fits}
 use lib.Ieee.Scale.{finite}
 use lib.Ieee.Positive.{positive}
 use Rattle.floats.proofs.Facts.{eq-self}
 use Rattle.floats.proofs.Sat.{no}
 use Rattle.floats.proofs.Floor.{round-number}
-use Rattle.floats.proofs.Mono.{mul-up}
+use Rattle.floats.proofs.Mono.{mul-up, div-up}
 use Rattle.floats.proofs.Rules.{key→le, add-mono}
 
 -- ---- a test `<` that passed
@@ -83,3 +83,26 @@ module _ (f : Format) where
   mul-mono (fin s m e) (fin t n d) (fin false k g) u u' v h =
       key→le f (mul f (fin s m e) (fin false k g)) (mul f (fin t n d) (fin false k g)) (mul-fits f (fin s m e) (fin false k g)) (mul-fits f (fin t n d) (fin false k g)) (mul-number (fin s m e) (fin false k g) tt tt) (mul-number (fin t n d) (fin false k g) tt tt)
       (mul-up f s m e t n d k g h)
+
+  div-number : (x y : Float) → T (finite x) → T (positive y) → T (not (isNan (div f x y)))
+  unfolding div
+  div-number nan y u v = absurd u
+  div-number (inf s) y u v = absurd u
+  div-number (fin s m e) nan u v = absurd v
+  div-number (fin s m e) (inf t) u v = absurd v
+  div-number (fin s m e) (fin true n d) u v = absurd v
+  div-number (fin s m e) (fin false zero d) u v = absurd v
+  div-number (fin s m e) (fin false (suc n) d) u v = rw (eqb·suc-zero n) (round-number f (unlike s false) (m * up e * down d) (suc n * up d * down e))
+
+  pub div-mono : (x x' y : Float) → T (finite x) → T (finite x') → T (positive y) → T (le x x') → T (le (div f x y) (div f x' y))
+  div-mono nan x' y u u' v h = absurd u
+  div-mono (inf s) x' y u u' v h = absurd u
+  div-mono (fin s m e) nan y u u' v h = absurd u'
+  div-mono (fin s m e) (inf t) y u u' v h = absurd u'
+  div-mono (fin s m e) (fin t n d) nan u u' v h = absurd v
+  div-mono (fin s m e) (fin t n d) (inf w) u u' v h = absurd v
+  div-mono (fin s m e) (fin t n d) (fin true k g) u u' v h = absurd v
+  div-mono (fin s m e) (fin t n d) (fin false zero g) u u' v h = absurd v
+  div-mono (fin s m e) (fin t n d) (fin false (suc k) g) u u' v h =
+      key→le f (div f (fin s m e) (fin false (suc k) g)) (div f (fin t n d) (fin false (suc k) g)) (div-fits f (fin s m e) (fin false (suc k) g)) (div-fits f (fin t n d) (fin false (suc k) g))
+      (div-number (fin s m e) (fin false (suc k) g) tt v) (div-number (fin t n d) (fin false (suc k) g) tt v) (div-up f s m e t n d k g h)

@@ -1,0 +1,157 @@
+-- THE CLAIM: 2^x, e^x, 8^x and 10^x at binary32 never fall as x rises, the infinities included. One law over the base's logarithm.
+use mathlib.Core.Path.{_≡_, refl, sym, ap, _∙_, subst, subst⁻¹}
+use mathlib.Core.Logic.{inl, inr}
+use mathlib.Core.Bool.{Bool, true, false, not}
+use Prim.Native.Nat.{ℕ, zero-le, _+_, _*_, _/_, _%_, _^_, _≤_, _<_}
+use native.Mathlib.Nat.{eq-or-lt-of-le, le-of-lt}
+use native.Mathlib.Omega.{arith}
+use lib.Count.{trailingZeros}
+use lib.IntN.{pos}
+use lib.Dec.{T, ltb→lt, leb→le}
+use lib.Ieee.{Float, nan, inf, fin, binary32, binary64, add, mul, sum, round, size, span, climb, units, odd, lt, le, eq, isNan, fits, ofBits, ofFields, toBits}
+use lib.Ieee.Positive.{positive, between, positive-finite}
+use lib.Ieee.Scale.{finite}
+use Rattle.floats.proofs.Numbers.{inside-finite, mul-mono}
+use Rattle.floats.proofs.PatternOrder.{patterns-rise, lt→le}
+use Rattle.floats.proofs.Rules.{add-mono, between-finite}
+use Rattle.floats.proofs.ToBits.{toBits-mono}
+use Rattle.elementary.specs.Placed.{edged, placed}
+use Rattle.elementary.specs.PowerCells.{starts, slopes, bends, startOf, slopeOf, bendOf}
+use Rattle.elementary.specs.Power.{lifted, mantissa, powerBits, power, exp2, exp, pow8, pow10}
+use Rattle.elementary.proofs.Edges.{bound, floor, Inside, edged-rises}
+use Rattle.elementary.proofs.PlacedRises.{placed-climbs, placed-rises, placed-under}
+use Rattle.elementary.proofs.PowerLike.{nought, one, PowerLike}
+use Rattle.elementary.proofs.PowerTable.{mantissa-rises, mantissa-low, mantissa-high}
+
+-- ---- patterns: from the bits of z to those of the answer
+module _ (v w : ℕ) where
+  upper-rises : v ≤ w → v / 4294967296 ≤ w / 4294967296
+  upper-rises h = omega arith
+
+  lower-rises : v ≤ w → v / 4294967296 ≡ w / 4294967296 → v % 4294967296 ≤ w % 4294967296
+  lower-rises h e = omega arith
+
+lower : (w : ℕ) → w % 4294967296 < 4294967296
+lower w = omega arith
+
+pub powerBits-rises : (v w : ℕ) → v ≤ w → powerBits v ≤ powerBits w
+unfolding powerBits
+powerBits-rises v w h =
+    elim (eq-or-lt-of-le (upper-rises v w h)) [
+      | inl e ↦
+          subst (λ (n : ℕ). placed 8388608 274877906944 2139095040 0x41380001 (v / 4294967296) (mantissa (v % 4294967296)) ≤ placed 8388608 274877906944 2139095040 0x41380001 n (mantissa (w % 4294967296))) e
+          (placed-rises 8388608 274877906944 2139095040 0x41380001 (ltb→lt 0 274877906944 tt) (v / 4294967296) (mantissa-rises (lower-rises v w h e) (lower w)))
+      | inr l ↦
+          placed-climbs 8388608 274877906944 2139095040 0x41380001 (ltb→lt 0 274877906944 tt) (v / 4294967296) (mantissa (v % 4294967296)) (w / 4294967296) (mantissa (w % 4294967296)) (le-of-lt (mantissa-high (v % 4294967296) (lower v)))
+          (mantissa-low (w % 4294967296) (lower w)) l
+    ]
+
+pub powerBits-under : (w : ℕ) → powerBits w ≤ 2139095040
+unfolding powerBits
+powerBits-under w = placed-under 8388608 274877906944 2139095040 0x41380001 (w / 4294967296) (mantissa (w % 4294967296))
+
+-- ---- what is computed of a base's logarithm to base 2
+pub record Base (c : Float) : Type 0 where
+  pub above-zero : T (positive c)
+  pub lowest : T (finite (mul binary64 floor c)) × T (positive (lifted c floor))
+  pub highest : T (finite (mul binary64 bound c)) × T (positive (lifted c bound))
+  pub at-zero : power c nought ≡ one
+  pub at-minus-zero : power c (fin true 0 (pos 0)) ≡ one
+
+-- ---- from x to z
+module _ (c : Float) (B : Base c) where
+  module _ (x : Float) (i : Inside x) where
+    inside : T (finite x)
+    inside = inside-finite floor x bound tt tt (i .1) (i .0)
+
+    from-floor : T (le (mul binary64 floor c) (mul binary64 x c))
+    from-floor = mul-mono binary64 floor x c tt inside (B .above-zero) (lt→le floor x (i .1))
+
+    to-bound : T (le (mul binary64 x c) (mul binary64 bound c))
+    to-bound = mul-mono binary64 x bound c inside tt (B .above-zero) (lt→le x bound (i .0))
+
+    product-finite : T (finite (mul binary64 x c))
+    product-finite = between-finite binary64 (mul binary64 floor c) (mul binary64 x c) (mul binary64 bound c) (B .lowest .0) (B .highest .0) from-floor to-bound
+
+  lift-rises : (a b : Float) → T (finite a) → T (finite b) → T (le a b) → T (le (add binary64 a (ofBits binary64 0x4138007f00000000)) (add binary64 b (ofBits binary64 0x4138007f00000000)))
+  unfolding ofBits ofFields odd
+  lift-rises a b u v h = add-mono binary64 a b (ofBits binary64 0x4138007f00000000) u v tt h
+
+  pub lifted-rises : (x y : Float) → Inside x → Inside y → T (le x y) → T (le (lifted c x) (lifted c y))
+  unfolding lifted
+  lifted-rises x y i j h = lift-rises (mul binary64 x c) (mul binary64 y c) (product-finite x i) (product-finite y j) (mul-mono binary64 x y c (inside x i) (inside y j) (B .above-zero) h)
+
+  lifted-from : (x : Float) → Inside x → T (le (lifted c floor) (lifted c x))
+  unfolding lifted
+  lifted-from x i = lift-rises (mul binary64 floor c) (mul binary64 x c) (B .lowest .0) (product-finite x i) (from-floor x i)
+
+  lifted-to : (x : Float) → Inside x → T (le (lifted c x) (lifted c bound))
+  unfolding lifted
+  lifted-to x i = lift-rises (mul binary64 x c) (mul binary64 bound c) (product-finite x i) (B .highest .0) (to-bound x i)
+
+  lifted-positive : (x : Float) → Inside x → T (positive (lifted c x))
+  lifted-positive x i = between (lifted c floor) (lifted c x) (lifted c bound) (B .lowest .1) (B .highest .1) (lifted-from x i) (lifted-to x i)
+
+  within-rises : (x y : Float) → T (fits binary32 x) → T (fits binary32 y) → Inside x → Inside y → T (le x y) → T (le (ofBits binary32 (powerBits (toBits binary64 (lifted c x)))) (ofBits binary32 (powerBits (toBits binary64 (lifted c y)))))
+  within-rises x y p q i j h =
+      let v = toBits binary64 (lifted c x) in
+      let w = toBits binary64 (lifted c y) in
+      patterns-rise binary32 (powerBits v) (powerBits w) (powerBits-rises v w (toBits-mono binary64 (lifted c x) (lifted c y) (lifted-positive x i) (lifted-positive y j) (lifted-rises x y i j h))) (powerBits-under w)
+
+  zero-pattern : ofBits binary32 0 ≡ nought
+  unfolding ofBits ofFields odd
+  zero-pattern = refl
+
+  within-positive : (x : Float) → T (fits binary32 x) → Inside x → T (le nought (ofBits binary32 (powerBits (toBits binary64 (lifted c x)))))
+  within-positive x p i =
+      let w = toBits binary64 (lifted c x) in
+      subst (λ (z : Float). T (le z (ofBits binary32 (powerBits w)))) zero-pattern (patterns-rise binary32 0 (powerBits w) zero-le (powerBits-under w))
+
+  pub power-rises : (x y : Float) → T (fits binary32 x) → T (fits binary32 y) → T (le x y) → T (le (power c x) (power c y))
+  unfolding power
+  power-rises = edged-rises binary32 (λ (x : Float). ofBits binary32 (powerBits (toBits binary64 (lifted c x)))) within-rises within-positive
+
+  pub power-like : PowerLike binary32 (power c)
+  unfolding power edged lt isNan
+  power-like =
+      record {
+        at-nan = refl;
+        at-minus-infinity = refl;
+        at-infinity = refl;
+        at-zero = B .at-zero;
+        at-minus-zero = B .at-minus-zero;
+        never-falls = power-rises;
+      }
+
+-- ---- the four bases
+base2 : Base (ofBits binary64 0x3ff0000000000000)
+unfolding power edged lifted powerBits placed mantissa startOf slopeOf bendOf starts slopes bends add mul sum round size span climb units odd ofBits ofFields toBits lt isNan trailingZeros
+base2 = record { above-zero = tt; lowest = (tt, tt); highest = (tt, tt); at-zero = refl; at-minus-zero = refl }
+
+baseE : Base (ofBits binary64 0x3ff71547652b82fe)
+unfolding power edged lifted powerBits placed mantissa startOf slopeOf bendOf starts slopes bends add mul sum round size span climb units odd ofBits ofFields toBits lt isNan trailingZeros
+baseE = record { above-zero = tt; lowest = (tt, tt); highest = (tt, tt); at-zero = refl; at-minus-zero = refl }
+
+base8 : Base (ofBits binary64 0x4008000000000000)
+unfolding power edged lifted powerBits placed mantissa startOf slopeOf bendOf starts slopes bends add mul sum round size span climb units odd ofBits ofFields toBits lt isNan trailingZeros
+base8 = record { above-zero = tt; lowest = (tt, tt); highest = (tt, tt); at-zero = refl; at-minus-zero = refl }
+
+base10 : Base (ofBits binary64 0x400a934f0979a371)
+unfolding power edged lifted powerBits placed mantissa startOf slopeOf bendOf starts slopes bends add mul sum round size span climb units odd ofBits ofFields toBits lt isNan trailingZeros
+base10 = record { above-zero = tt; lowest = (tt, tt); highest = (tt, tt); at-zero = refl; at-minus-zero = refl }
+
+pub exp2-like : PowerLike binary32 exp2
+unfolding exp2
+exp2-like = power-like (ofBits binary64 0x3ff0000000000000) base2
+
+pub exp-like : PowerLike binary32 exp
+unfolding exp
+exp-like = power-like (ofBits binary64 0x3ff71547652b82fe) baseE
+
+pub pow8-like : PowerLike binary32 pow8
+unfolding pow8
+pow8-like = power-like (ofBits binary64 0x4008000000000000) base8
+
+pub pow10-like : PowerLike binary32 pow10
+unfolding pow10
+pow10-like = power-like (ofBits binary64 0x400a934f0979a371) base10
