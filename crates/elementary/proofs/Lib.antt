@@ -5,3 +5,5 @@ pub mod PowerTable
 pub mod PowerLike
 pub mod PowerRises
 pub mod PowerValues
+pub mod Halves
+pub mod Exp64Rises

@@ -23,7 +23,7 @@ plus : (k : ℕ) {a b : ℕ} → a ≤ b → k + a ≤ k + b
 plus k h = omega arith
 
 -- a number below twice another, shifted one place further at least, is not above it
-shifted-less : (m m' i j : ℕ) → m ≤ 2 * m' → j < i → m / 2 ^ i ≤ m' / 2 ^ j
+pub shifted-less : (m m' i j : ℕ) → m ≤ 2 * m' → j < i → m / 2 ^ i ≤ m' / 2 ^ j
 shifted-less m m' i j h l =
     div-mono m (2 ^ i) m' (2 ^ j) (pow-pos i) (pow-pos j)
     (le-trans (mul-le-mul-right (2 ^ j) h)
