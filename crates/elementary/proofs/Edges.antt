@@ -1,9 +1,9 @@
 -- `edged` case by case, and where what stands within never falls and is never below 0, `edged` of it never falls.
 use mathlib.Core.Path.{_≡_, refl, sym, _∙_, subst, subst⁻¹}
-use mathlib.Core.Bool.{Bool, true, false, not, cond}
+use mathlib.Core.Bool.{Bool, true, false, not}
 use lib.IntN.{pos}
 use lib.Dec.{T}
-use lib.Ieee.{Float, nan, inf, fin, Format, binary32, binary64, lt, le, eq, ne, isNan, fits}
+use lib.Ieee.{Float, inf, fin, Format, binary32, binary64, lt, le, eq, ne, isNan, fits}
 use lib.Ieee.Compare.{differs-from-itself}
 use lib.Ieee.Bits.{is-false}
 use Rattle.floats.proofs.Facts.{ne-self}
@@ -11,71 +11,69 @@ use Rattle.floats.proofs.Numbers.{lt-left-number, le-left-number, le-right-numb
 use Rattle.floats.proofs.PatternOrder.{le-inf, le-lt, lt-le}
 use Rattle.floats.proofs.Sat.{no}
 use Rattle.elementary.specs.Placed.{edged}
+use Rattle.elementary.proofs.PowerLike.{nought}
 
-abbrev pub bound : Float
-bound = fin false 1 (pos 10)
+abbrev pub upper-edge : Float
+upper-edge = fin false 1 (pos 10)
 
-abbrev pub floor : Float
-floor = fin true 1 (pos 10)
-
-abbrev pub nought : Float
-nought = fin false 0 (pos 0)
+abbrev pub lower-edge : Float
+lower-edge = fin true 1 (pos 10)
 
 module _ (g : Float → Float) (x : Float) where
   pub edged-nan : ne x x ≡ true → edged g x ≡ x
   unfolding edged
   edged-nan h = let e : isNan x ≡ true = sym (ne-self x) ∙ h in rw e (sym (differs-from-itself x (subst T (sym h) tt)))
 
-  pub edged-within : lt x bound ≡ true → lt floor x ≡ true → edged g x ≡ g x
+  pub edged-within : lt x upper-edge ≡ true → lt lower-edge x ≡ true → edged g x ≡ g x
   unfolding edged
-  edged-within h k = rw (lt-left-number x bound h, h, k)
+  edged-within h k = rw (lt-left-number x upper-edge h, h, k)
 
-  pub edged-low : lt x bound ≡ true → lt floor x ≡ false → edged g x ≡ nought
+  pub edged-low : lt x upper-edge ≡ true → lt lower-edge x ≡ false → edged g x ≡ nought
   unfolding edged
-  edged-low h k = rw (lt-left-number x bound h, h, k)
+  edged-low h k = rw (lt-left-number x upper-edge h, h, k)
 
-  pub edged-high : isNan x ≡ false → lt x bound ≡ false → edged g x ≡ inf false
+  pub edged-high : isNan x ≡ false → lt x upper-edge ≡ false → edged g x ≡ inf false
   unfolding edged
   edged-high h k = rw (h, k)
 
 -- ---- the law, at either width
 abbrev pub Inside : Float → Type 0
-Inside x = (lt x bound ≡ true) × (lt floor x ≡ true)
+Inside x = (lt x upper-edge ≡ true) × (lt lower-edge x ≡ true)
 
 module _ (f : Format) (g : Float → Float) (rises : (x y : Float) → T (fits f x) → T (fits f y) → Inside x → Inside y → T (le x y) → T (le (g x) (g y))) (positive : (x : Float) → T (fits f x) → Inside x → T (le nought (g x))) where
-  bound-fits : (f : Format) → T (fits f bound)
+  upper-edge-fits : (f : Format) → T (fits f upper-edge)
   unfolding fits
-  bound-fits binary32 = tt
-  bound-fits binary64 = tt
+  upper-edge-fits binary32 = tt
+  upper-edge-fits binary64 = tt
 
-  floor-fits : (f : Format) → T (fits f floor)
+  lower-edge-fits : (f : Format) → T (fits f lower-edge)
   unfolding fits
-  floor-fits binary32 = tt
-  floor-fits binary64 = tt
+  lower-edge-fits binary32 = tt
+  lower-edge-fits binary64 = tt
 
   some-number : (x y : Float) → x ≡ y → T (not (isNan y)) → T (not (isNan x))
   some-number x y e u = subst⁻¹ (λ (z : Float). T (not (isNan z))) e u
 
   pub edged-number : (x : Float) → T (fits f x) → T (not (isNan x)) → T (not (isNan (edged g x)))
   unfolding isNan
-  edged-number x p u = go (lt x bound) (lt floor x) refl refl
+  edged-number x p u = go (lt x upper-edge) (lt lower-edge x) refl refl
     where
-      go : (a b : Bool) → lt x bound ≡ a → lt floor x ≡ b → T (not (isNan (edged g x)))
+      go : (a b : Bool) → lt x upper-edge ≡ a → lt lower-edge x ≡ b → T (not (isNan (edged g x)))
       go true true h k = some-number (edged g x) (g x) (edged-within g x h k) (le-right-number nought (g x) (positive x p (h, k)))
       go true false h k = some-number (edged g x) nought (edged-low g x h k) tt
       go false b h k = some-number (edged g x) (inf false) (edged-high g x (is-false (isNan x) u) h) tt
 
   pub edged-rises : (x y : Float) → T (fits f x) → T (fits f y) → T (le x y) → T (le (edged g x) (edged g y))
   unfolding le lt eq
-  edged-rises x y p q l = go (lt x bound) (lt floor x) (lt y bound) (lt floor y) refl refl refl refl
+  edged-rises x y p q l = go (lt x upper-edge) (lt lower-edge x) (lt y upper-edge) (lt lower-edge y) refl refl refl refl
     where
-      under : lt y bound ≡ true → lt x bound ≡ false → ⊥
-      under h k = no (sym k ∙ le-lt f x y bound p q (bound-fits f) l h)
+      under : lt y upper-edge ≡ true → lt x upper-edge ≡ false → ⊥
+      under h k = no (sym k ∙ le-lt f x y upper-edge p q (upper-edge-fits f) l h)
 
-      over : lt floor x ≡ true → lt floor y ≡ false → ⊥
-      over h k = no (sym k ∙ lt-le f floor x y (floor-fits f) p q h l)
+      over : lt lower-edge x ≡ true → lt lower-edge y ≡ false → ⊥
+      over h k = no (sym k ∙ lt-le f lower-edge x y (lower-edge-fits f) p q h l)
 
-      go : (a b c d : Bool) → lt x bound ≡ a → lt floor x ≡ b → lt y bound ≡ c → lt floor y ≡ d → T (le (edged g x) (edged g y))
+      go : (a b c d : Bool) → lt x upper-edge ≡ a → lt lower-edge x ≡ b → lt y upper-edge ≡ c → lt lower-edge y ≡ d → T (le (edged g x) (edged g y))
       go a b false d h k h' k' = subst⁻¹ (λ (z : Float). T (le (edged g x) z)) (edged-high g y (is-false (isNan y) (le-right-number x y l)) h') (le-inf (edged g x) (edged-number x p (le-left-number x y l)))
       go false b true d h k h' k' = absurd (under h' h)
       go true true true false h k h' k' = absurd (over k k')

@@ -1,28 +1,27 @@
 -- THE CLAIM: e^x at binary64 never falls as x rises, the infinities included. Each step keeps the order: the size's pattern, the product, the side, the polynomial, the assembly.
-use mathlib.Core.Path.{_≡_, refl, sym, ap, _∙_, subst, subst⁻¹}
+use mathlib.Core.Path.{_≡_, refl, ap, _∙_, subst}
 use mathlib.Core.Logic.{inl, inr}
-use mathlib.Core.Bool.{Bool, true, false, not, cond}
+use mathlib.Core.Bool.{Bool, true, false}
 use Prim.Native.Nat.{ℕ, zero, suc, zero-le, _+_, _-_, _*_, _/_, _%_, _^_, _≤_, _<_}
-use native.Mathlib.Nat.{le-refl, le-trans, le-of-eq, le-of-lt, lt-of-lt-of-le, mod-eq-of-lt, mul-assoc, mul-comm, mul-pos, mul-le-mul, mul-le-mul-left, mul-le-mul-right, eq-or-lt-of-le, zero-mul, zero-div, zero-lt-suc}
+use native.Mathlib.Nat.{le-refl, le-trans, le-of-eq, mod-eq-of-lt, mul-assoc, mul-pos, mul-le-mul, mul-le-mul-right, eq-or-lt-of-le, zero-mul, zero-div, zero-lt-suc}
 use native.Mathlib.Omega.{arith}
 use lib.Count.{trailingZeros}
 use lib.IntN.{ℤ, pos, negsuc}
-use lib.Dec.{T, ltb, ltb→lt, leb→le}
+use lib.Dec.{T, ltb→lt, leb→le}
 use lib.Pow.{pow-pos}
 use lib.Ieee.{Float, nan, inf, fin, binary64, up, down, size, span, climb, odd, lt, le, isNan, fits, ofBits, ofFields, toBits}
 use lib.Ieee.Fits.{up-pos, down-pos}
-use lib.Ieee.Nearest.{div-mono}
 use borrow.Author.Tests.{ltb-true, lt-ltb, le-ltb}
 use Rattle.floats.proofs.Mono.{le→signed}
+use Rattle.floats.proofs.Naturals.{div-rises, shifted-less}
 use Rattle.floats.proofs.PatternOrder.{patterns-rise, bits-under, sizes-rise}
 use Rattle.floats.proofs.Sat.{no}
 use Rattle.floats.proofs.Sign.{negative-is}
 use Rattle.elementary.specs.Placed.{edged, placed}
 use Rattle.elementary.specs.Exp64.{scaled, sided, high, expMantissa, expBits, exp64}
-use Rattle.elementary.proofs.Edges.{bound, floor, Inside, edged-rises}
-use Rattle.elementary.proofs.Halves.{high-le}
-use Rattle.elementary.proofs.PlacedRises.{placed-climbs, placed-rises, placed-under, shifted-less}
-use Rattle.elementary.proofs.PowerLike.{nought, one, PowerLike}
+use Rattle.elementary.proofs.Edges.{Inside, edged-rises}
+use Rattle.elementary.proofs.PlacedRises.{placed-climbs, placed-rises, placed-under}
+use Rattle.elementary.proofs.PowerLike.{nought, PowerLike}
 
 -- ---- the polynomial
 plus : (k : ℕ) {a b : ℕ} → a ≤ b → k + a ≤ k + b
@@ -30,7 +29,7 @@ plus k h = omega arith
 
 high-rises : {f g a b : ℕ} → f ≤ g → a ≤ b → high f a ≤ high g b
 unfolding high
-high-rises {f} {g} {a} {b} h k = div-mono (f * a) 18446744073709551616 (g * b) 18446744073709551616 (pow-pos 64) (pow-pos 64) (mul-le-mul-right 18446744073709551616 (mul-le-mul h k))
+high-rises h k = div-rises (pow-pos 64) (mul-le-mul h k)
 
 half-rises : (k : ℕ) {a b : ℕ} → a ≤ b → k + a / 2 ≤ k + b / 2
 half-rises k h = omega arith
@@ -95,7 +94,7 @@ scaled-rises p q h k =
     elim (eq-or-lt-of-le (whole-rises p q h)) [
       | inl e ↦
           subst (λ (x : ℕ). (digits p / 2 ^ (64 + (1032 - p / 4503599627370496)) + 1) / 2 ≤ (digits q / 2 ^ (64 + (1032 - x)) + 1) / 2) e
-          (nearest-rises (div-mono (digits p) (2 ^ s) (digits q) (2 ^ s) (pow-pos s) (pow-pos s) (mul-le-mul-right (2 ^ s) (mul-le-mul-right 13306513097844322492 (mul-le-mul-right 2048 (rest-rises e))))))
+          (nearest-rises (div-rises (pow-pos s) (mul-le-mul-right 13306513097844322492 (mul-le-mul-right 2048 (rest-rises e)))))
       | inr l ↦ nearest-rises (shifted-less (digits p) (digits q) s t (twice (p % 4503599627370496) (q % 4503599627370496) (omega arith)) (omega arith))
     ]
   where
@@ -159,7 +158,7 @@ sided-negative m e i = ap sided (negative-is binary64 m e) ∙ sided-below (bits
 -- a zero has no digits
 zero-bits : (e : ℤ) → bits 0 e ≡ 0
 unfolding toBits size span climb
-zero-bits (pos k) = simp (zero-mul, zero-div)
+zero-bits (pos k) = simp zero-mul
 zero-bits (negsuc k) = simp (zero-mul, zero-div)
 
 scaled-zero : scaled 0 ≡ 0

@@ -1,9 +1,8 @@
-pub mod PlacedRises
-pub mod PlacedAt
-pub mod Edges
-pub mod PowerTable
 pub mod PowerLike
+pub mod Edges
+pub mod PlacedAt
+pub mod PlacedRises
+pub mod PowerTable
 pub mod PowerRises
 pub mod PowerValues
-pub mod Halves
 pub mod Exp64Rises

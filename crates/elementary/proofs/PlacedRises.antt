@@ -1,33 +1,18 @@
 -- `placed` never falls, over its constants: not as the digits rise under one exponent, nor from one exponent to a higher one. So one law serves both widths.
-use mathlib.Core.Path.{_≡_, refl, sym, ap, _∙_, subst, subst⁻¹}
-use mathlib.Core.Logic.{_⊎_, ⊎-elim, inl, inr}
-use Prim.Native.Nat.{ℕ, zero, suc, zero-le, suc-le-suc, _+_, _-_, _*_, _/_, _%_, _^_, _≤_, _<_, min}
-use native.Mathlib.Nat.{le-trans, le-of-eq, le-of-lt, mul-assoc, mul-comm, mul-le-mul-right, mul-le-mul-left, mul-pos, add-mul, one-mul, div-one, div-le-self, mul-add-div-right, div-eq-of-lt, add-zero, pow-succ'}
+use mathlib.Core.Path.{_≡_, sym, ap, _∙_, subst⁻¹}
+use mathlib.Core.Logic.{inl, inr}
+use Prim.Native.Nat.{ℕ, _+_, _-_, _*_, _/_, _^_, _≤_, _<_, min}
+use native.Mathlib.Nat.{le-trans, le-of-eq, mul-assoc, mul-le-mul-right, mul-le-mul-left, add-mul, one-mul, div-one, div-le-self, mul-add-div-right, div-eq-of-lt, add-zero}
 use native.Mathlib.Omega.{arith}
-use lib.Pow.{pow-pos, pow-add, pow-mono, shr-mono}
-use lib.Ieee.Nearest.{div-mono}
+use lib.Pow.{shr-mono}
+use Rattle.floats.proofs.Naturals.{le-or-lt, div-rises, shifted-less}
 use Rattle.elementary.specs.Placed.{placed}
-
-pub le-or-lt : (a b : ℕ) → (a ≤ b) ⊎ (b < a)
-le-or-lt zero b = inl zero-le
-le-or-lt (suc a) zero = inr (suc-le-suc zero-le)
-le-or-lt (suc a) (suc b) = ⊎-elim (λ p. inl (suc-le-suc p)) (λ q. inr (suc-le-suc q)) (le-or-lt a b)
-
-div-rises : {a b d : ℕ} → 0 < d → a ≤ b → a / d ≤ b / d
-div-rises {a} {b} {d} D h = div-mono a d b d D D (mul-le-mul-right d h)
 
 min-rises : (z : ℕ) {x y : ℕ} → x ≤ y → min x z ≤ min y z
 min-rises z h = omega arith
 
 plus : (k : ℕ) {a b : ℕ} → a ≤ b → k + a ≤ k + b
 plus k h = omega arith
-
--- a number below twice another, shifted one place further at least, is not above it
-pub shifted-less : (m m' i j : ℕ) → m ≤ 2 * m' → j < i → m / 2 ^ i ≤ m' / 2 ^ j
-shifted-less m m' i j h l =
-    div-mono m (2 ^ i) m' (2 ^ j) (pow-pos i) (pow-pos j)
-    (le-trans (mul-le-mul-right (2 ^ j) h)
-    (le-trans (le-of-eq (ap (λ (z : ℕ). z * 2 ^ j) (mul-comm 2 m') ∙ mul-assoc m' 2 (2 ^ j) ∙ ap (λ (z : ℕ). m' * z) (sym (pow-succ' 2 j)))) (mul-le-mul-left m' (pow-mono l))))
 
 module _ (hid half infinity k : ℕ) (H : 0 < half) where
   abbrev near : ℕ → ℕ

@@ -1,9 +1,9 @@
 -- What all five powers have in common, at either width: their special values, that they never fall, and so that at or below 0 they lie from 0 to 1.
 use mathlib.Core.Path.{_≡_, subst}
-use mathlib.Core.Bool.{Bool, true, false, not}
+use mathlib.Core.Bool.{true, false, not}
 use lib.IntN.{pos}
 use lib.Dec.{T}
-use lib.Ieee.{Float, nan, inf, fin, Format, binary32, binary64, le, isNan, fits}
+use lib.Ieee.{Float, nan, inf, fin, Format, le, isNan, fits}
 use Rattle.floats.proofs.Numbers.{le-left-number}
 use Rattle.floats.proofs.PatternOrder.{inf-le}
 

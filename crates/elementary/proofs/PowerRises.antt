@@ -1,15 +1,15 @@
 -- THE CLAIM: 2^x, e^x, 8^x and 10^x at binary32 never fall as x rises, the infinities included. One law over the base's logarithm.
-use mathlib.Core.Path.{_≡_, refl, sym, ap, _∙_, subst, subst⁻¹}
+use mathlib.Core.Path.{_≡_, refl, subst}
 use mathlib.Core.Logic.{inl, inr}
-use mathlib.Core.Bool.{Bool, true, false, not}
-use Prim.Native.Nat.{ℕ, zero-le, _+_, _*_, _/_, _%_, _^_, _≤_, _<_}
+use mathlib.Core.Bool.{true}
+use Prim.Native.Nat.{ℕ, zero-le, _/_, _%_, _≤_, _<_}
 use native.Mathlib.Nat.{eq-or-lt-of-le, le-of-lt}
 use native.Mathlib.Omega.{arith}
 use lib.Count.{trailingZeros}
 use lib.IntN.{pos}
-use lib.Dec.{T, ltb→lt, leb→le}
-use lib.Ieee.{Float, nan, inf, fin, binary32, binary64, add, mul, sum, round, size, span, climb, units, odd, lt, le, eq, isNan, fits, ofBits, ofFields, toBits}
-use lib.Ieee.Positive.{positive, between, positive-finite}
+use lib.Dec.{T, ltb→lt}
+use lib.Ieee.{Float, fin, binary32, binary64, add, mul, sum, round, size, span, climb, units, odd, lt, le, isNan, fits, ofBits, ofFields, toBits}
+use lib.Ieee.Positive.{positive, between}
 use lib.Ieee.Scale.{finite}
 use Rattle.floats.proofs.Numbers.{inside-finite, mul-mono}
 use Rattle.floats.proofs.PatternOrder.{patterns-rise, lt→le}
@@ -18,7 +18,7 @@ use Rattle.floats.proofs.ToBits.{toBits-mono}
 use Rattle.elementary.specs.Placed.{edged, placed}
 use Rattle.elementary.specs.PowerCells.{starts, slopes, bends, startOf, slopeOf, bendOf}
 use Rattle.elementary.specs.Power.{lifted, mantissa, powerBits, power, exp2, exp, pow8, pow10}
-use Rattle.elementary.proofs.Edges.{bound, floor, Inside, edged-rises}
+use Rattle.elementary.proofs.Edges.{upper-edge, lower-edge, Inside, edged-rises}
 use Rattle.elementary.proofs.PlacedRises.{placed-climbs, placed-rises, placed-under}
 use Rattle.elementary.proofs.PowerLike.{nought, one, PowerLike}
 use Rattle.elementary.proofs.PowerTable.{mantissa-rises, mantissa-low, mantissa-high}
@@ -53,8 +53,8 @@ powerBits-under w = placed-under 8388608 274877906944 2139095040 0x41380001 (w /
 -- ---- what is computed of a base's logarithm to base 2
 pub record Base (c : Float) : Type 0 where
   pub above-zero : T (positive c)
-  pub lowest : T (finite (mul binary64 floor c)) × T (positive (lifted c floor))
-  pub highest : T (finite (mul binary64 bound c)) × T (positive (lifted c bound))
+  pub lowest : T (finite (mul binary64 lower-edge c)) × T (positive (lifted c lower-edge))
+  pub highest : T (finite (mul binary64 upper-edge c)) × T (positive (lifted c upper-edge))
   pub at-zero : power c nought ≡ one
   pub at-minus-zero : power c (fin true 0 (pos 0)) ≡ one
 
@@ -62,16 +62,16 @@ pub record Base (c : Float) : Type 0 where
 module _ (c : Float) (B : Base c) where
   module _ (x : Float) (i : Inside x) where
     inside : T (finite x)
-    inside = inside-finite floor x bound tt tt (i .1) (i .0)
+    inside = inside-finite lower-edge x upper-edge tt tt (i .1) (i .0)
 
-    from-floor : T (le (mul binary64 floor c) (mul binary64 x c))
-    from-floor = mul-mono binary64 floor x c tt inside (B .above-zero) (lt→le floor x (i .1))
+    from-lower-edge : T (le (mul binary64 lower-edge c) (mul binary64 x c))
+    from-lower-edge = mul-mono binary64 lower-edge x c tt inside (B .above-zero) (lt→le lower-edge x (i .1))
 
-    to-bound : T (le (mul binary64 x c) (mul binary64 bound c))
-    to-bound = mul-mono binary64 x bound c inside tt (B .above-zero) (lt→le x bound (i .0))
+    to-upper-edge : T (le (mul binary64 x c) (mul binary64 upper-edge c))
+    to-upper-edge = mul-mono binary64 x upper-edge c inside tt (B .above-zero) (lt→le x upper-edge (i .0))
 
     product-finite : T (finite (mul binary64 x c))
-    product-finite = between-finite binary64 (mul binary64 floor c) (mul binary64 x c) (mul binary64 bound c) (B .lowest .0) (B .highest .0) from-floor to-bound
+    product-finite = between-finite binary64 (mul binary64 lower-edge c) (mul binary64 x c) (mul binary64 upper-edge c) (B .lowest .0) (B .highest .0) from-lower-edge to-upper-edge
 
   lift-rises : (a b : Float) → T (finite a) → T (finite b) → T (le a b) → T (le (add binary64 a (ofBits binary64 0x4138007f00000000)) (add binary64 b (ofBits binary64 0x4138007f00000000)))
   unfolding ofBits ofFields odd
@@ -81,16 +81,16 @@ module _ (c : Float) (B : Base c) where
   unfolding lifted
   lifted-rises x y i j h = lift-rises (mul binary64 x c) (mul binary64 y c) (product-finite x i) (product-finite y j) (mul-mono binary64 x y c (inside x i) (inside y j) (B .above-zero) h)
 
-  lifted-from : (x : Float) → Inside x → T (le (lifted c floor) (lifted c x))
+  lifted-from : (x : Float) → Inside x → T (le (lifted c lower-edge) (lifted c x))
   unfolding lifted
-  lifted-from x i = lift-rises (mul binary64 floor c) (mul binary64 x c) (B .lowest .0) (product-finite x i) (from-floor x i)
+  lifted-from x i = lift-rises (mul binary64 lower-edge c) (mul binary64 x c) (B .lowest .0) (product-finite x i) (from-lower-edge x i)
 
-  lifted-to : (x : Float) → Inside x → T (le (lifted c x) (lifted c bound))
+  lifted-to : (x : Float) → Inside x → T (le (lifted c x) (lifted c upper-edge))
   unfolding lifted
-  lifted-to x i = lift-rises (mul binary64 x c) (mul binary64 bound c) (product-finite x i) (B .highest .0) (to-bound x i)
+  lifted-to x i = lift-rises (mul binary64 x c) (mul binary64 upper-edge c) (product-finite x i) (B .highest .0) (to-upper-edge x i)
 
   lifted-positive : (x : Float) → Inside x → T (positive (lifted c x))
-  lifted-positive x i = between (lifted c floor) (lifted c x) (lifted c bound) (B .lowest .1) (B .highest .1) (lifted-from x i) (lifted-to x i)
+  lifted-positive x i = between (lifted c lower-edge) (lifted c x) (lifted c upper-edge) (B .lowest .1) (B .highest .1) (lifted-from x i) (lifted-to x i)
 
   within-rises : (x y : Float) → T (fits binary32 x) → T (fits binary32 y) → Inside x → Inside y → T (le x y) → T (le (ofBits binary32 (powerBits (toBits binary64 (lifted c x)))) (ofBits binary32 (powerBits (toBits binary64 (lifted c y)))))
   within-rises x y p q i j h =

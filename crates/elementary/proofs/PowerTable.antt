@@ -1,14 +1,14 @@
 -- The table of the powers: what its entries are, by computed tests over all cells, and that the curve through them never falls.
 use mathlib.Core.Path.{_≡_, refl, subst, subst⁻¹}
-use mathlib.Core.Bool.{Bool, true, false, _&&_}
+use mathlib.Core.Bool.{Bool, _&&_}
 use mathlib.Core.Logic.{inl, inr}
 use Prim.Native.Nat.{ℕ, zero, suc, zero-le, _+_, _-_, _*_, _/_, _%_, _^_, _≤_, _<_}
-use native.Mathlib.Nat.{le-refl, le-trans, le-of-lt, lt-of-lt-of-le, mul-le-mul, mul-le-mul-left, mul-le-mul-right, eq-or-lt-of-le, le-of-suc-le-suc, div-le-of-le-mul}
+use native.Mathlib.Nat.{le-refl, le-trans, lt-of-lt-of-le, mul-le-mul, mul-le-mul-left, eq-or-lt-of-le, le-of-suc-le-suc}
 use native.Mathlib.Omega.{arith}
 use lib.Dec.{T, ltb, leb, leb→le, ltb→lt}
 use lib.Pow.{pow-pos}
 use lib.Ieee.Fits.{and-l, and-r}
-use lib.Ieee.Nearest.{div-mono}
+use Rattle.floats.proofs.Naturals.{div-rises}
 use Rattle.floats.proofs.Tables.{all, from}
 use Rattle.elementary.specs.PowerCells.{starts, slopes, bends, startOf, slopeOf, bendOf}
 use Rattle.elementary.specs.Power.{curve, inCell, mantissa}
@@ -85,7 +85,7 @@ plus : (k : ℕ) {a b : ℕ} → a ≤ b → k + a ≤ k + b
 plus k h = omega arith
 
 curve-rises : (t s b : ℕ) {p r : ℕ} → p ≤ r → curve t s b p ≤ curve t s b r
-curve-rises t s b {p} {r} h = plus t (mul-le-mul h (plus s (div-mono (b * p) 67108864 (b * r) 67108864 (pow-pos 26) (pow-pos 26) (mul-le-mul-right 67108864 (mul-le-mul-left b h)))))
+curve-rises t s b {p} {r} h = plus t (mul-le-mul h (plus s (div-rises (pow-pos 26) (mul-le-mul-left b h))))
 
 curve-above : (t s b r : ℕ) → t ≤ curve t s b r
 curve-above t s b r = more t _

@@ -1,11 +1,11 @@
 -- Values of the powers that 01 names: 2^x is exact at whole numbers, 10^x stays above 0.00099 from -3 on, and a level of 0 dB or less is a gain from 0 to 1.
-use mathlib.Core.Path.{_≡_, refl, sym, ap, _∙_, subst, subst⁻¹}
-use mathlib.Core.Bool.{Bool, true, false, not, cond}
-use Prim.Native.Nat.{ℕ, suc, _+_, _*_, _≤_, _<_}
+use mathlib.Core.Path.{_≡_, refl, subst, subst⁻¹}
+use mathlib.Core.Bool.{Bool, true, false, cond}
+use Prim.Native.Nat.{ℕ, _<_}
 use lib.Count.{trailingZeros}
-use lib.IntN.{ℤ, pos, negsuc}
+use lib.IntN.{pos}
 use lib.Dec.{T}
-use lib.Ieee.{Float, nan, inf, fin, Format, binary32, binary64, minus, ofInt, add, mul, div, sum, round, size, span, climb, units, odd, lt, le, eq, isNan, fits, ofBits, ofFields, toBits}
+use lib.Ieee.{Float, nan, inf, fin, binary32, binary64, minus, ofInt, add, mul, div, sum, round, size, span, climb, units, odd, lt, le, eq, isNan, fits, ofBits, ofFields, toBits}
 use lib.Ieee.Bits.{ofBits-fits}
 use lib.Ieee.Fits.{cond-fits, div-fits}
 use lib.Ieee.Positive.{positive}
@@ -14,10 +14,10 @@ use Rattle.floats.proofs.Rules.{le-trans}
 use Rattle.floats.proofs.Tables.{all, from, same, same→≡}
 use Rattle.elementary.specs.Placed.{edged, placed}
 use Rattle.elementary.specs.PowerCells.{starts, slopes, bends, startOf, slopeOf, bendOf}
-use Rattle.elementary.specs.Power.{lifted, mantissa, powerBits, power, exp2, exp, pow8, pow10, dbToGain}
-use Rattle.elementary.proofs.Edges.{bound, floor}
-use Rattle.elementary.proofs.PowerLike.{nought, one, PowerLike, in-unit, at-most-one}
-use Rattle.elementary.proofs.PowerRises.{exp2-like, pow10-like}
+use Rattle.elementary.specs.Power.{lifted, mantissa, powerBits, power, exp2, pow10, dbToGain}
+use Rattle.elementary.proofs.Edges.{upper-edge, lower-edge}
+use Rattle.elementary.proofs.PowerLike.{nought, one, in-unit, at-most-one}
+use Rattle.elementary.proofs.PowerRises.{pow10-like}
 
 -- ---- 2^(n - 149), for n from 0 to 276
 unfoldable exactAt : ℕ → Bool
@@ -35,8 +35,8 @@ exp2-exact n h = same→≡ (exp2 (ofInt binary32 (minus n 149))) (fin false 1 (
 pub power-fits : (c x : Float) → T (fits binary32 (power c x))
 unfolding power edged fits
 power-fits c x =
-    cond-fits binary32 (isNan x) nan (cond (lt x bound) (cond (lt floor x) (within x) nought) (inf false)) tt
-    (cond-fits binary32 (lt x bound) (cond (lt floor x) (within x) nought) (inf false) (cond-fits binary32 (lt floor x) (within x) nought (ofBits-fits binary32 (powerBits (toBits binary64 (lifted c x)))) tt) tt)
+    cond-fits binary32 (isNan x) nan (cond (lt x upper-edge) (cond (lt lower-edge x) (within x) nought) (inf false)) tt
+    (cond-fits binary32 (lt x upper-edge) (cond (lt lower-edge x) (within x) nought) (inf false) (cond-fits binary32 (lt lower-edge x) (within x) nought (ofBits-fits binary32 (powerBits (toBits binary64 (lifted c x)))) tt) tt)
   where
     within : Float → Float
     within x = ofBits binary32 (powerBits (toBits binary64 (lifted c x)))

@@ -1,6 +1,6 @@
 -- How a power becomes a float, at either width: what lies too far out, and the pattern of what does not. Definitions only.
 use Prim.Native.Nat.{ℕ, _+_, _-_, _*_, _/_, _^_, min}
-use mathlib.Core.Bool.{Bool, true, false, cond}
+use mathlib.Core.Bool.{true, false, cond}
 use lib.IntN.{pos}
 use lib.Ieee.{Float, nan, inf, fin, lt, isNan}
 

@@ -16,3 +16,5 @@ pub mod Numbers
 pub mod Patterns
 pub mod ToBits
 pub mod PatternOrder
+pub mod Naturals
+pub mod Halves

@@ -1,8 +1,7 @@
 -- Over the format: which operations give a number and no NaN, and a product with a positive number, or a quotient by one, goes up with the other operand.
-use Prim.Native.Nat.{ℕ, zero, suc, _+_, _*_}
-use mathlib.Core.Path.{_≡_, refl, subst, subst⁻¹}
+use Prim.Native.Nat.{zero, suc, _*_}
+use mathlib.Core.Path.{_≡_, refl, subst⁻¹}
 use mathlib.Core.Bool.{Bool, true, false, not, _||_}
-use lib.IntN.{ℤ}
 use lib.Dec.{T, eqb·suc-zero}
 use lib.Ieee.{Float, nan, inf, fin, Format, up, down, add, mul, div, unlike, lt, le, eq, isNan}
 use lib.Ieee.Fits.{mul-fits, div-fits}

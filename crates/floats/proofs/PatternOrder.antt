@@ -9,7 +9,7 @@ use borrow.Author.Tests.{ltb-true, lt-ltb}
 use lib.IntN.{ℤ}
 use lib.Dec.{T}
 use lib.Pow.{pow-pos, pow-add}
-use lib.Ieee.{Float, nan, inf, fin, Format, binary32, binary64, prec, low, hid, ones, up, down, size, toBits, lt, le, eq, fits, isNan, nanBits, ofBits, ofFields}
+use lib.Ieee.{Float, nan, inf, fin, Format, binary32, binary64, prec, low, hid, ones, up, down, size, toBits, lt, le, eq, fits, isNan, ofBits, ofFields}
 use lib.Ieee.Bits.{nanBits-is}
 use lib.Ieee.Digits.{size-le}
 use lib.Ieee.Fits.{down-pos, kept-lt, two}

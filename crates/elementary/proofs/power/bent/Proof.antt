@@ -1,5 +1,4 @@
 use mathlib.Core.Path.{refl}
-use Prim.Native.Nat.{ℕ, _*_, _/_, _≤_, _<_}
 use native.Mathlib.Nat.{mul-le-mul-right, le-of-lt, mul-comm, div-le-of-le-mul}
 use native.Mathlib.Omega.{arith}
 use Rattle.floats.proofs.Words.{product-fits}

@@ -1,28 +1,26 @@
 use borrow.Author.Needs.{needs}
-use mathlib.Core.Path.{_≡_, refl, sym, ap, _∙_, subst}
-use mathlib.Core.Bool.{Bool, true, false, not}
+use mathlib.Core.Path.{_≡_, sym, _∙_, subst}
+use mathlib.Core.Bool.{Bool, true, not}
 use native.Mathlib.Omega.{arith}
-use lib.IntN.{pos}
 use lib.Dec.{T}
-use lib.Ieee.{Float, fin, binary32, binary64, fits, isNan, mul, lt, neg, ofBits}
+use lib.Ieee.{Float, binary32, binary64, fits, isNan, mul, lt, neg, ofBits}
 use lib.Ieee.Fits.{fits-widens, and-i}
 use lib.Ieee.Scale.{finite}
 use denote.Floats.{passes}
 use Rattle.floats.proofs.Facts.{ne-self, no-nan}
 use Rattle.floats.proofs.Narrow as Narrow
 use Rattle.floats.proofs.Numbers.{lt-left-number, inside-finite, mul-number, add-number}
-use Rattle.elementary.specs.Placed.{edged}
 use Rattle.elementary.specs.Power.{power, lifted}
-use Rattle.elementary.proofs.Edges.{bound, floor, edged-nan, edged-within, edged-low, edged-high}
+use Rattle.elementary.proofs.Edges.{upper-edge, lower-edge, edged-nan, edged-within, edged-low, edged-high}
 use Rattle.elementary.proofs.power.power.Statement.{statement}
 use Rattle.elementary.proofs.power.power.Tie as tie
 
-number : (x : Float) → lt x bound ≡ true → T (not (isNan x))
-number x h = subst (λ (b : Bool). T (not b)) (sym (lt-left-number x bound h)) tt
+number : (x : Float) → lt x upper-edge ≡ true → T (not (isNan x))
+number x h = subst (λ (b : Bool). T (not b)) (sym (lt-left-number x upper-edge h)) tt
 
-lifted-number : (c x : Float) → T (finite c) → lt x bound ≡ true → lt floor x ≡ true → T (not (isNan (lifted c x)))
+lifted-number : (c x : Float) → T (finite c) → lt x upper-edge ≡ true → lt lower-edge x ≡ true → T (not (isNan (lifted c x)))
 unfolding lifted ofBits
-lifted-number c x u h k = add-number binary64 (mul binary64 x c) (ofBits binary64 0x4138007f00000000) (mul-number binary64 x c (inside-finite floor x bound tt tt k h) u) tt
+lifted-number c x u h k = add-number binary64 (mul binary64 x c) (ofBits binary64 0x4138007f00000000) (mul-number binary64 x c (inside-finite lower-edge x upper-edge tt tt k h) u) tt
 
 float-to-float-z : tie.Need-float-to-float-z
 unfolding ofBits

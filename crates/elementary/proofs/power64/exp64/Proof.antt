@@ -1,23 +1,21 @@
 use borrow.Author.Needs.{needs}
-use mathlib.Core.Path.{_≡_, refl, sym, ap, _∙_, subst}
-use mathlib.Core.Bool.{Bool, true, false, not}
-use Prim.Native.Nat.{ℕ, _*_, _/_, _%_, _≤_, _<_}
+use mathlib.Core.Path.{_≡_, sym, ap, _∙_, subst}
+use mathlib.Core.Bool.{Bool, not}
 use native.Mathlib.Omega.{arith}
 use lib.Dec.{T}
-use lib.Ieee.{Float, nan, inf, fin, binary64, isNan, lt, neg, ofBits, toBits}
+use lib.Ieee.{binary64, neg, ofBits, toBits}
 use Rattle.floats.proofs.Facts.{ne-self}
 use Rattle.floats.proofs.Narrow.{no-nan}
 use Rattle.floats.proofs.Numbers.{lt-left-number}
-use Rattle.elementary.specs.Placed.{edged, placed}
-use Rattle.elementary.specs.Exp64.{sided, expMantissa, expBits, exp64}
-use Rattle.elementary.proofs.Edges.{bound, floor, edged-nan, edged-within, edged-low, edged-high}
+use Rattle.elementary.specs.Exp64.{sided, expBits, exp64}
+use Rattle.elementary.proofs.Edges.{upper-edge, edged-nan, edged-within, edged-low, edged-high}
 use Rattle.elementary.proofs.Exp64Rises.{size-bits, expBits-under}
 use Rattle.elementary.proofs.power64.exp64.Statement.{statement}
 use Rattle.elementary.proofs.power64.exp64.Tie as tie
 
 float-to-bits-sided : tie.Need-float-to-bits-sided
 unfolding ofBits
-float-to-bits-sided c = let x = c .before .before .args .x in subst (λ (b : Bool). T (not b)) (sym (lt-left-number x bound (c .before .if1 .taken))) tt
+float-to-bits-sided c = let x = c .before .before .args .x in subst (λ (b : Bool). T (not b)) (sym (lt-left-number x upper-edge (c .before .if1 .taken))) tt
 
 sided-requires : tie.Need-sided-requires
 unfolding ofBits neg

@@ -1,5 +1,4 @@
 use borrow.Author.Needs.{needs}
-use mathlib.Core.Path.{_≡_, sym, ap}
 use borrow.Author.Tests.{lt-ltb, le-ltb}
 use Rattle.elementary.specs.Exp64.{sided}
 use Rattle.elementary.proofs.power64.sided.Statement.{statement}

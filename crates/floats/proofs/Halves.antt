@@ -1,6 +1,6 @@
 -- The upper half of a product, by halves of its factors. Assumes nothing.
 use mathlib.Core.Path.{_≡_, refl, sym, ap, _∙_}
-use Prim.Native.Nat.{ℕ, _+_, _-_, _*_, _/_, _%_, _^_, _≤_, _<_}
+use Prim.Native.Nat.{ℕ, _+_, _-_, _*_, _/_, _%_, _≤_, _<_}
 use native.Mathlib.Nat.{le-of-lt, mul-le-mul, mul-le-mul-right, mul-add, add-mul, mul-assoc, mul-right-comm, mul-mul-mul-comm, div-le-of-le-mul, div-add-mod'}
 use native.Mathlib.Omega.{arith}
 
