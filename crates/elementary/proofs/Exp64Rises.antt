@@ -17,7 +17,7 @@ use Rattle.floats.proofs.Naturals.{div-rises, shifted-less}
 use Rattle.floats.proofs.PatternOrder.{patterns-rise, bits-under, sizes-rise}
 use Rattle.floats.proofs.Sat.{no}
 use Rattle.floats.proofs.Sign.{negative-is}
-use Rattle.elementary.specs.Placed.{edged, placed}
+use Rattle.elementary.specs.Placed.{edged, placed, placed64}
 use Rattle.elementary.specs.Exp64.{scaled, sided, high, expMantissa, expBits, exp64}
 use Rattle.elementary.proofs.Edges.{Inside, edged-rises}
 use Rattle.elementary.proofs.PlacedRises.{placed-climbs, placed-rises, placed-under}
@@ -70,7 +70,7 @@ unfolding expBits
 expBits-rises v w h =
     elim (eq-or-lt-of-le (whole-rises v w h)) [
       | inl e ↦
-          subst (λ (n : ℕ). placed 4503599627370496 1024 0x7ff0000000000000 1026 (v / 4503599627370496) (expMantissa (v % 4503599627370496 * 4096)) ≤ placed 4503599627370496 1024 0x7ff0000000000000 1026 n (expMantissa (w % 4503599627370496 * 4096))) e
+          subst (λ (n : ℕ). placed64 (v / 4503599627370496) (expMantissa (v % 4503599627370496 * 4096)) ≤ placed64 n (expMantissa (w % 4503599627370496 * 4096))) e
           (placed-rises 4503599627370496 1024 0x7ff0000000000000 1026 (ltb→lt 0 1024 tt) (v / 4503599627370496) (expMantissa-rises (fraction-rises v w h e)))
       | inr l ↦
           placed-climbs 4503599627370496 1024 0x7ff0000000000000 1026 (ltb→lt 0 1024 tt) (v / 4503599627370496) (expMantissa (v % 4503599627370496 * 4096)) (w / 4503599627370496) (expMantissa (w % 4503599627370496 * 4096))

@@ -15,7 +15,7 @@ use Rattle.floats.proofs.Numbers.{inside-finite, mul-mono}
 use Rattle.floats.proofs.PatternOrder.{patterns-rise, lt→le}
 use Rattle.floats.proofs.Rules.{add-mono, between-finite}
 use Rattle.floats.proofs.ToBits.{toBits-mono}
-use Rattle.elementary.specs.Placed.{edged, placed}
+use Rattle.elementary.specs.Placed.{edged, placed, placed32}
 use Rattle.elementary.specs.PowerCells.{starts, slopes, bends, startOf, slopeOf, bendOf}
 use Rattle.elementary.specs.Power.{lifted, mantissa, powerBits, power, exp2, exp, pow8, pow10}
 use Rattle.elementary.proofs.Edges.{upper-edge, lower-edge, Inside, edged-rises}
@@ -39,7 +39,7 @@ unfolding powerBits
 powerBits-rises v w h =
     elim (eq-or-lt-of-le (upper-rises v w h)) [
       | inl e ↦
-          subst (λ (n : ℕ). placed 8388608 274877906944 2139095040 0x41380001 (v / 4294967296) (mantissa (v % 4294967296)) ≤ placed 8388608 274877906944 2139095040 0x41380001 n (mantissa (w % 4294967296))) e
+          subst (λ (n : ℕ). placed32 (v / 4294967296) (mantissa (v % 4294967296)) ≤ placed32 n (mantissa (w % 4294967296))) e
           (placed-rises 8388608 274877906944 2139095040 0x41380001 (ltb→lt 0 274877906944 tt) (v / 4294967296) (mantissa-rises (lower-rises v w h e) (lower w)))
       | inr l ↦
           placed-climbs 8388608 274877906944 2139095040 0x41380001 (ltb→lt 0 274877906944 tt) (v / 4294967296) (mantissa (v % 4294967296)) (w / 4294967296) (mantissa (w % 4294967296)) (le-of-lt (mantissa-high (v % 4294967296) (lower v)))

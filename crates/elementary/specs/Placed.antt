@@ -17,3 +17,10 @@ edged within x =
 -- A carry of the rounding runs into the field by itself, and from the field of an infinity on all is the infinity.
 unfoldable pub placed : ℕ → ℕ → ℕ → ℕ → ℕ → ℕ → ℕ
 placed hid half infinity k n m = min ((n - k) * hid + (m / 2 ^ (k - n) + half) / (2 * half)) infinity
+
+-- binary32, m from 2^62 to below 2^63; and binary64, m from 2^63 to below 2^64
+abbrev pub placed32 : ℕ → ℕ → ℕ
+placed32 n m = placed 8388608 274877906944 0x7f800000 0x41380001 n m
+
+abbrev pub placed64 : ℕ → ℕ → ℕ
+placed64 n m = placed 4503599627370496 1024 0x7ff0000000000000 1026 n m

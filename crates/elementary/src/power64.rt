@@ -1,7 +1,7 @@
-// e^x at f64, in 64-bit fixed point with products by halves.
+// e^x at f64, for every argument, in 64-bit fixed point with products by halves: within 1.5 spacings of the true value.
 ghost use mathlib.Core.Path.{_≡_};
 ghost use Prim.Native.Nat.{_<_, _≤_, _+_, _*_, _/_, _%_, _^_};
-ghost use Rattle.elementary.specs.Placed.{placed};
+ghost use Rattle.elementary.specs.Placed.{placed64};
 ghost use Rattle.elementary.specs.Exp64 as Exp64;
 
 // The upper half of a product: a * b / 2^64, rounded down.
@@ -63,7 +63,7 @@ fn sided(b: u64) -> u64
 // The pattern of m under the exponent n, rounded once.
 fn pattern(n: u64, m: u64) -> u64
     requires { ⌜ 9223372036854775808 ≤ m ⌝ }
-    ensures { λ r. ⌜ r ≡ placed 4503599627370496 1024 0x7ff0000000000000 1026 n m ⌝ }
+    ensures { λ r. ⌜ r ≡ placed64 n m ⌝ }
 {
     if 3072 <= n {
         return 0x7ff0_0000_0000_0000;

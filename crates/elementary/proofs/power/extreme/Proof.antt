@@ -6,7 +6,7 @@ use native.Mathlib.Omega.{arith}
 use lib.Pow.{pow-mono}
 use lib.Ieee.{binary32, ofBits}
 use Rattle.floats.proofs.Narrow.{no-nan}
-use Rattle.elementary.specs.Placed.{placed}
+use Rattle.elementary.specs.Placed.{placed32}
 use Rattle.elementary.proofs.PlacedAt.{placed-over, placed-below}
 use Rattle.elementary.proofs.power.extreme.Statement.{statement}
 use Rattle.elementary.proofs.power.extreme.Tie as tie
@@ -27,10 +27,10 @@ module _ (m j : ℕ) (M : m < 9223372036854775808) where
 last-field : (j m : ℕ) → 254 ≤ j → 4611686018427387904 ≤ m → 2139095040 ≤ j * 8388608 + (m + 274877906944) / 549755813888
 last-field j m h k = omega arith
 
-over : (n m : ℕ) → 0x413800ff ≤ n → 4611686018427387904 ≤ m → placed 8388608 274877906944 2139095040 first n m ≡ 2139095040
+over : (n m : ℕ) → 0x413800ff ≤ n → 4611686018427387904 ≤ m → placed32 n m ≡ 2139095040
 over n m h k =
     let e : n ≡ first + (n - first) = omega arith in
-    ap (λ (z : ℕ). placed 8388608 274877906944 2139095040 first z m) e ∙ placed-over 8388608 274877906944 2139095040 first (n - first) m (last-field (n - first) m (omega arith) k)
+    ap (λ (z : ℕ). placed32 z m) e ∙ placed-over 8388608 274877906944 2139095040 first (n - first) m (last-field (n - first) m (omega arith) k)
 
 float-from-bits-result : tie.Need-float-from-bits-result
 float-from-bits-result c = no-nan binary32 2139095040 (omega arith)
@@ -50,7 +50,7 @@ cast-result c = omega (arith, under (c .before .before .args .m) (first - c .bef
 float-from-bits-result-2 : tie.Need-float-from-bits-result-2
 float-from-bits-result-2 c = no-nan binary32 _ (under (c .before .before .args .m) (first - c .before .before .args .n) (c .before .before .pre .2))
 
-below : (n m : ℕ) → n < first → m < 9223372036854775808 → placed 8388608 274877906944 2139095040 first n m ≡ (m / 2 ^ (first - n) + 274877906944) / 549755813888
+below : (n m : ℕ) → n < first → m < 9223372036854775808 → placed32 n m ≡ (m / 2 ^ (first - n) + 274877906944) / 549755813888
 below n m h k = placed-below 8388608 274877906944 2139095040 first n m (le-of-lt h) (under m (first - n) k)
 
 returns : tie.Need-returns

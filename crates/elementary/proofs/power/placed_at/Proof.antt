@@ -3,7 +3,7 @@ use mathlib.Core.Path.{_≡_, refl, _∙_}
 use Prim.Native.Nat.{ℕ, _+_, _/_, _%_, _^_, _≤_, _<_}
 use native.Mathlib.Omega.{arith}
 use lib.Ieee.{binary32, ofBits}
-use Rattle.elementary.specs.Placed.{placed}
+use Rattle.elementary.specs.Placed.{placed32}
 use Rattle.elementary.specs.Power.{mantissa, powerBits}
 use Rattle.elementary.proofs.PowerTable.{mantissa-low}
 use Rattle.elementary.proofs.power.placed_at.Statement.{statement}
@@ -16,7 +16,7 @@ inside n k h l = omega arith
 outside : (n k : ℕ) → (k + 0x41380001) % 2 ^ 64 ≡ n → k < 2 ^ 64 → 254 ≤ k → 0x41380001 ≤ n → 0x413800ff ≤ n
 outside n k h f l g = omega arith
 
-at : (n w m : ℕ) → n ≡ w / 4294967296 → m ≡ mantissa (w % 4294967296) → ofBits binary32 (placed 8388608 274877906944 0x7f800000 0x41380001 n m) ≡ ofBits binary32 (powerBits w)
+at : (n w m : ℕ) → n ≡ w / 4294967296 → m ≡ mantissa (w % 4294967296) → ofBits binary32 (placed32 n m) ≡ ofBits binary32 (powerBits w)
 unfolding powerBits
 at n w m p q = rw (p, q)
 

@@ -4,21 +4,18 @@ use Prim.Native.Nat.{ℕ, _+_, _-_, _*_, _/_, _^_, _≤_, _<_}
 use native.Mathlib.Nat.{div-le-self, div-eq-of-lt, lt-of-lt-of-le, le-of-lt}
 use native.Mathlib.Omega.{arith}
 use lib.Pow.{pow-mono}
-use Rattle.elementary.specs.Placed.{placed}
+use Rattle.elementary.specs.Placed.{placed64}
 use Rattle.elementary.proofs.PlacedAt.{placed-above, placed-over, placed-below}
 use Rattle.elementary.proofs.power64.pattern.Statement.{statement}
 use Rattle.elementary.proofs.power64.pattern.Tie as tie
 
-abbrev Placed : ℕ → ℕ → ℕ
-Placed n m = placed 4503599627370496 1024 0x7ff0000000000000 1026 n m
+at : (n m : ℕ) → 1026 ≤ n → placed64 n m ≡ placed64 (1026 + (n - 1026)) m
+at n m h = let e : n ≡ 1026 + (n - 1026) = omega arith in ap (λ (z : ℕ). placed64 z m) e
 
-at : (n m : ℕ) → 1026 ≤ n → Placed n m ≡ Placed (1026 + (n - 1026)) m
-at n m h = let e : n ≡ 1026 + (n - 1026) = omega arith in ap (λ (z : ℕ). Placed z m) e
-
-over : (n m : ℕ) → 3072 ≤ n → 9223372036854775808 ≤ m → Placed n m ≡ 0x7ff0000000000000
+over : (n m : ℕ) → 3072 ≤ n → 9223372036854775808 ≤ m → placed64 n m ≡ 0x7ff0000000000000
 over n m h k = at n m (omega arith) ∙ placed-over 4503599627370496 1024 0x7ff0000000000000 1026 (n - 1026) m (omega arith)
 
-own : (n m : ℕ) → n < 3072 → 1026 ≤ n → m < 18446744073709551616 → Placed n m ≡ (n - 1026) * 4503599627370496 + (m / 1024 + 1) / 2
+own : (n m : ℕ) → n < 3072 → 1026 ≤ n → m < 18446744073709551616 → placed64 n m ≡ (n - 1026) * 4503599627370496 + (m / 1024 + 1) / 2
 own n m h k l = at n m k ∙ placed-above 4503599627370496 1024 0x7ff0000000000000 1026 (n - 1026) m (omega arith) ∙ near (n - 1026) m
   where
     near : (j m : ℕ) → j * 4503599627370496 + (m + 1024) / 2048 ≡ j * 4503599627370496 + (m / 1024 + 1) / 2
@@ -34,7 +31,7 @@ module _ (m j : ℕ) (M : m < 18446744073709551616) where
   gone : 64 ≤ j → (m / 2 ^ j + 1024) / 2048 ≡ 0
   gone h = ap (λ (q : ℕ). (q + 1024) / 2048) (div-eq-of-lt (lt-of-lt-of-le M (pow-mono h)))
 
-below : (n m : ℕ) → n < 1026 → m < 18446744073709551616 → Placed n m ≡ (m / 2 ^ (1026 - n) + 1024) / 2048
+below : (n m : ℕ) → n < 1026 → m < 18446744073709551616 → placed64 n m ≡ (m / 2 ^ (1026 - n) + 1024) / 2048
 below n m h k = placed-below 4503599627370496 1024 0x7ff0000000000000 1026 n m (le-of-lt h) (under m (1026 - n) k)
 
 halves : (q : ℕ) → (q / 1024 + 1) / 2 ≡ (q + 1024) / 2048
