@@ -3,12 +3,13 @@ use mathlib.Core.Path.{_≡_, refl, sym, _∙_, subst, subst⁻¹}
 use mathlib.Core.Bool.{Bool, true, false, not}
 use lib.IntN.{pos}
 use lib.Dec.{T}
-use lib.Ieee.{Float, inf, fin, Format, binary32, binary64, lt, le, eq, ne, isNan, fits}
+use lib.Ieee.{Float, inf, fin, lt, le, eq, ne, isNan}
 use lib.Ieee.Compare.{differs-from-itself}
 use lib.Ieee.Bits.{is-false}
 use Rattle.floats.proofs.Facts.{ne-self}
 use Rattle.floats.proofs.Numbers.{lt-left-number, le-left-number, le-right-number}
-use Rattle.floats.proofs.PatternOrder.{le-inf, le-lt, lt-le}
+use Rattle.floats.proofs.PatternOrder.{le-inf}
+use Rattle.floats.proofs.Through.{le-lt, lt-le}
 use Rattle.floats.proofs.Sat.{no}
 use Rattle.elementary.specs.Placed.{edged}
 use Rattle.elementary.proofs.PowerLike.{nought}
@@ -40,43 +41,33 @@ module _ (g : Float → Float) (x : Float) where
 abbrev pub Inside : Float → Type 0
 Inside x = (lt x upper-edge ≡ true) × (lt lower-edge x ≡ true)
 
-module _ (f : Format) (g : Float → Float) (rises : (x y : Float) → T (fits f x) → T (fits f y) → Inside x → Inside y → T (le x y) → T (le (g x) (g y))) (positive : (x : Float) → T (fits f x) → Inside x → T (le nought (g x))) where
-  upper-edge-fits : (f : Format) → T (fits f upper-edge)
-  unfolding fits
-  upper-edge-fits binary32 = tt
-  upper-edge-fits binary64 = tt
-
-  lower-edge-fits : (f : Format) → T (fits f lower-edge)
-  unfolding fits
-  lower-edge-fits binary32 = tt
-  lower-edge-fits binary64 = tt
-
+module _ (g : Float → Float) (rises : (x y : Float) → Inside x → Inside y → T (le x y) → T (le (g x) (g y))) (positive : (x : Float) → Inside x → T (le nought (g x))) where
   some-number : (x y : Float) → x ≡ y → T (not (isNan y)) → T (not (isNan x))
   some-number x y e u = subst⁻¹ (λ (z : Float). T (not (isNan z))) e u
 
-  pub edged-number : (x : Float) → T (fits f x) → T (not (isNan x)) → T (not (isNan (edged g x)))
+  pub edged-number : (x : Float) → T (not (isNan x)) → T (not (isNan (edged g x)))
   unfolding isNan
-  edged-number x p u = go (lt x upper-edge) (lt lower-edge x) refl refl
+  edged-number x u = go (lt x upper-edge) (lt lower-edge x) refl refl
     where
       go : (a b : Bool) → lt x upper-edge ≡ a → lt lower-edge x ≡ b → T (not (isNan (edged g x)))
-      go true true h k = some-number (edged g x) (g x) (edged-within g x h k) (le-right-number nought (g x) (positive x p (h, k)))
+      go true true h k = some-number (edged g x) (g x) (edged-within g x h k) (le-right-number nought (g x) (positive x (h, k)))
       go true false h k = some-number (edged g x) nought (edged-low g x h k) tt
       go false b h k = some-number (edged g x) (inf false) (edged-high g x (is-false (isNan x) u) h) tt
 
-  pub edged-rises : (x y : Float) → T (fits f x) → T (fits f y) → T (le x y) → T (le (edged g x) (edged g y))
+  pub edged-rises : (x y : Float) → T (le x y) → T (le (edged g x) (edged g y))
   unfolding le lt eq
-  edged-rises x y p q l = go (lt x upper-edge) (lt lower-edge x) (lt y upper-edge) (lt lower-edge y) refl refl refl refl
+  edged-rises x y l = go (lt x upper-edge) (lt lower-edge x) (lt y upper-edge) (lt lower-edge y) refl refl refl refl
     where
       under : lt y upper-edge ≡ true → lt x upper-edge ≡ false → ⊥
-      under h k = no (sym k ∙ le-lt f x y upper-edge p q (upper-edge-fits f) l h)
+      under h k = no (sym k ∙ le-lt x y upper-edge l h)
 
       over : lt lower-edge x ≡ true → lt lower-edge y ≡ false → ⊥
-      over h k = no (sym k ∙ lt-le f lower-edge x y (lower-edge-fits f) p q h l)
+      over h k = no (sym k ∙ lt-le lower-edge x y h l)
 
       go : (a b c d : Bool) → lt x upper-edge ≡ a → lt lower-edge x ≡ b → lt y upper-edge ≡ c → lt lower-edge y ≡ d → T (le (edged g x) (edged g y))
-      go a b false d h k h' k' = subst⁻¹ (λ (z : Float). T (le (edged g x) z)) (edged-high g y (is-false (isNan y) (le-right-number x y l)) h') (le-inf (edged g x) (edged-number x p (le-left-number x y l)))
+      go a b false d h k h' k' = subst⁻¹ (λ (z : Float). T (le (edged g x) z)) (edged-high g y (is-false (isNan y) (le-right-number x y l)) h') (le-inf (edged g x) (edged-number x (le-left-number x y l)))
       go false b true d h k h' k' = absurd (under h' h)
       go true true true false h k h' k' = absurd (over k k')
-      go true true true true h k h' k' = rw (edged-within g x h k, edged-within g y h' k') (rises x y p q (h, k) (h', k') l)
-      go true false true true h k h' k' = rw (edged-low g x h k, edged-within g y h' k') (positive y q (h', k'))
+      go true true true true h k h' k' = rw (edged-within g x h k, edged-within g y h' k') (rises x y (h, k) (h', k') l)
+      go true false true true h k h' k' = rw (edged-low g x h k, edged-within g y h' k') (positive y (h', k'))
       go true false true false h k h' k' = rw (edged-low g x h k, edged-low g y h' k') tt

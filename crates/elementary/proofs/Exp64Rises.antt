@@ -9,7 +9,7 @@ use lib.Count.{trailingZeros}
 use lib.IntN.{ℤ, pos, negsuc}
 use lib.Dec.{T, ltb→lt, leb→le}
 use lib.Pow.{pow-pos}
-use lib.Ieee.{Float, nan, inf, fin, binary64, up, down, size, span, climb, odd, lt, le, isNan, fits, ofBits, ofFields, toBits}
+use lib.Ieee.{Float, nan, inf, fin, binary64, up, down, size, span, climb, odd, lt, le, isNan, ofBits, ofFields, toBits}
 use lib.Ieee.Fits.{up-pos, down-pos}
 use borrow.Author.Tests.{ltb-true, lt-ltb, le-ltb}
 use Rattle.floats.proofs.Mono.{le→signed}
@@ -204,8 +204,8 @@ sided-rises (fin s m e) (fin t n d) i j h = sides-rise s m e t n d i j h
 abbrev within : Float → Float
 within x = ofBits binary64 (expBits (sided (toBits binary64 x)))
 
-within-rises : (x y : Float) → T (fits binary64 x) → T (fits binary64 y) → Inside x → Inside y → T (le x y) → T (le (within x) (within y))
-within-rises x y p q i j h =
+within-rises : (x y : Float) → Inside x → Inside y → T (le x y) → T (le (within x) (within y))
+within-rises x y i j h =
     let v = sided (toBits binary64 x) in
     let w = sided (toBits binary64 y) in
     patterns-rise binary64 (expBits v) (expBits w) (expBits-rises v w (sided-rises x y i j h)) (expBits-under w)
@@ -214,15 +214,15 @@ zero-pattern : ofBits binary64 0 ≡ nought
 unfolding ofBits ofFields odd
 zero-pattern = refl
 
-within-positive : (x : Float) → T (fits binary64 x) → Inside x → T (le nought (within x))
-within-positive x p i =
+within-positive : (x : Float) → Inside x → T (le nought (within x))
+within-positive x i =
     let w = sided (toBits binary64 x) in
     subst (λ (z : Float). T (le z (ofBits binary64 (expBits w)))) zero-pattern (patterns-rise binary64 0 (expBits w) zero-le (expBits-under w))
 
-exp64-rises : (x y : Float) → T (fits binary64 x) → T (fits binary64 y) → T (le x y) → T (le (exp64 x) (exp64 y))
+exp64-rises : (x y : Float) → T (le x y) → T (le (exp64 x) (exp64 y))
 unfolding exp64
-exp64-rises = edged-rises binary64 within within-rises within-positive
+exp64-rises = edged-rises within within-rises within-positive
 
-pub exp64-like : PowerLike binary64 exp64
+pub exp64-like : PowerLike exp64
 unfolding exp64 edged expBits sided scaled placed expMantissa high size span climb odd ofBits ofFields toBits lt isNan trailingZeros
 exp64-like = record { at-nan = refl; at-minus-infinity = refl; at-infinity = refl; at-zero = refl; at-minus-zero = refl; never-falls = exp64-rises }

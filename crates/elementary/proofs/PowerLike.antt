@@ -3,7 +3,7 @@ use mathlib.Core.Path.{_≡_, subst}
 use mathlib.Core.Bool.{true, false, not}
 use lib.IntN.{pos}
 use lib.Dec.{T}
-use lib.Ieee.{Float, nan, inf, fin, Format, le, isNan, fits}
+use lib.Ieee.{Float, nan, inf, fin, le, isNan}
 use Rattle.floats.proofs.Numbers.{le-left-number}
 use Rattle.floats.proofs.PatternOrder.{inf-le}
 
@@ -13,22 +13,20 @@ nought = fin false 0 (pos 0)
 abbrev pub one : Float
 one = fin false 1 (pos 0)
 
-pub record PowerLike (f : Format) (p : Float → Float) : Type 0 where
+pub record PowerLike (p : Float → Float) : Type 0 where
   pub at-nan : p nan ≡ nan
   pub at-minus-infinity : p (inf true) ≡ nought
   pub at-infinity : p (inf false) ≡ inf false
   pub at-zero : p nought ≡ one
   pub at-minus-zero : p (fin true 0 (pos 0)) ≡ one
-  pub never-falls : (x y : Float) → T (fits f x) → T (fits f y) → T (le x y) → T (le (p x) (p y))
+  pub never-falls : (x y : Float) → T (le x y) → T (le (p x) (p y))
 
-module _ {f : Format} {p : Float → Float} (P : PowerLike f p) (x : Float) (h : T (fits f x)) where
+module _ {p : Float → Float} (P : PowerLike p) (x : Float) where
   pub not-negative : T (not (isNan x)) → T (le nought (p x))
-  unfolding fits
-  not-negative u = subst (λ (z : Float). T (le z (p x))) (P .at-minus-infinity) (P .never-falls (inf true) x tt h (inf-le x u))
+  not-negative u = subst (λ (z : Float). T (le z (p x))) (P .at-minus-infinity) (P .never-falls (inf true) x (inf-le x u))
 
   pub at-most-one : T (le x nought) → T (le (p x) one)
-  unfolding fits
-  at-most-one l = subst (λ (z : Float). T (le (p x) z)) (P .at-zero) (P .never-falls x nought h tt l)
+  at-most-one l = subst (λ (z : Float). T (le (p x) z)) (P .at-zero) (P .never-falls x nought l)
 
   pub in-unit : T (le x nought) → T (le nought (p x)) × T (le (p x) one)
   in-unit l = (not-negative (le-left-number x nought l), at-most-one l)

@@ -8,7 +8,7 @@ use native.Mathlib.Omega.{arith}
 use lib.Count.{trailingZeros}
 use lib.IntN.{pos}
 use lib.Dec.{T, ltb→lt}
-use lib.Ieee.{Float, fin, binary32, binary64, add, mul, sum, round, size, span, climb, units, odd, lt, le, isNan, fits, ofBits, ofFields, toBits}
+use lib.Ieee.{Float, fin, binary32, binary64, add, mul, sum, round, size, span, climb, units, odd, lt, le, isNan, ofBits, ofFields, toBits}
 use lib.Ieee.Positive.{positive, between}
 use lib.Ieee.Scale.{finite}
 use Rattle.floats.proofs.Numbers.{inside-finite, mul-mono}
@@ -92,8 +92,8 @@ module _ (c : Float) (B : Base c) where
   lifted-positive : (x : Float) → Inside x → T (positive (lifted c x))
   lifted-positive x i = between (lifted c lower-edge) (lifted c x) (lifted c upper-edge) (B .lowest .1) (B .highest .1) (lifted-from x i) (lifted-to x i)
 
-  within-rises : (x y : Float) → T (fits binary32 x) → T (fits binary32 y) → Inside x → Inside y → T (le x y) → T (le (ofBits binary32 (powerBits (toBits binary64 (lifted c x)))) (ofBits binary32 (powerBits (toBits binary64 (lifted c y)))))
-  within-rises x y p q i j h =
+  within-rises : (x y : Float) → Inside x → Inside y → T (le x y) → T (le (ofBits binary32 (powerBits (toBits binary64 (lifted c x)))) (ofBits binary32 (powerBits (toBits binary64 (lifted c y)))))
+  within-rises x y i j h =
       let v = toBits binary64 (lifted c x) in
       let w = toBits binary64 (lifted c y) in
       patterns-rise binary32 (powerBits v) (powerBits w) (powerBits-rises v w (toBits-mono binary64 (lifted c x) (lifted c y) (lifted-positive x i) (lifted-positive y j) (lifted-rises x y i j h))) (powerBits-under w)
@@ -102,16 +102,16 @@ module _ (c : Float) (B : Base c) where
   unfolding ofBits ofFields odd
   zero-pattern = refl
 
-  within-positive : (x : Float) → T (fits binary32 x) → Inside x → T (le nought (ofBits binary32 (powerBits (toBits binary64 (lifted c x)))))
-  within-positive x p i =
+  within-positive : (x : Float) → Inside x → T (le nought (ofBits binary32 (powerBits (toBits binary64 (lifted c x)))))
+  within-positive x i =
       let w = toBits binary64 (lifted c x) in
       subst (λ (z : Float). T (le z (ofBits binary32 (powerBits w)))) zero-pattern (patterns-rise binary32 0 (powerBits w) zero-le (powerBits-under w))
 
-  pub power-rises : (x y : Float) → T (fits binary32 x) → T (fits binary32 y) → T (le x y) → T (le (power c x) (power c y))
+  pub power-rises : (x y : Float) → T (le x y) → T (le (power c x) (power c y))
   unfolding power
-  power-rises = edged-rises binary32 (λ (x : Float). ofBits binary32 (powerBits (toBits binary64 (lifted c x)))) within-rises within-positive
+  power-rises = edged-rises (λ (x : Float). ofBits binary32 (powerBits (toBits binary64 (lifted c x)))) within-rises within-positive
 
-  pub power-like : PowerLike binary32 (power c)
+  pub power-like : PowerLike (power c)
   unfolding power edged lt isNan
   power-like =
       record {
@@ -140,18 +140,18 @@ base10 : Base (ofBits binary64 0x400a934f0979a371)
 unfolding power edged lifted powerBits placed mantissa startOf slopeOf bendOf starts slopes bends add mul sum round size span climb units odd ofBits ofFields toBits lt isNan trailingZeros
 base10 = record { above-zero = tt; lowest = (tt, tt); highest = (tt, tt); at-zero = refl; at-minus-zero = refl }
 
-pub exp2-like : PowerLike binary32 exp2
+pub exp2-like : PowerLike exp2
 unfolding exp2
 exp2-like = power-like (ofBits binary64 0x3ff0000000000000) base2
 
-pub exp-like : PowerLike binary32 exp
+pub exp-like : PowerLike exp
 unfolding exp
 exp-like = power-like (ofBits binary64 0x3ff71547652b82fe) baseE
 
-pub pow8-like : PowerLike binary32 pow8
+pub pow8-like : PowerLike pow8
 unfolding pow8
 pow8-like = power-like (ofBits binary64 0x4008000000000000) base8
 
-pub pow10-like : PowerLike binary32 pow10
+pub pow10-like : PowerLike pow10
 unfolding pow10
 pow10-like = power-like (ofBits binary64 0x400a934f0979a371) base10

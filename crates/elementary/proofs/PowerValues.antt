@@ -7,7 +7,7 @@ use lib.IntN.{pos}
 use lib.Dec.{T}
 use lib.Ieee.{Float, nan, inf, fin, binary32, binary64, minus, ofInt, add, mul, div, sum, round, size, span, climb, units, odd, lt, le, eq, isNan, fits, ofBits, ofFields, toBits}
 use lib.Ieee.Bits.{ofBits-fits}
-use lib.Ieee.Fits.{cond-fits, div-fits}
+use lib.Ieee.Fits.{cond-fits}
 use lib.Ieee.Positive.{positive}
 use Rattle.floats.proofs.Numbers.{div-mono}
 use Rattle.floats.proofs.Rules.{le-trans}
@@ -50,14 +50,10 @@ at-minus-three : T (le (ofBits binary32 0x3a81c2e3) (pow10 (fin true 3 (pos 0)))
 unfolding pow10 power edged lifted powerBits placed mantissa startOf slopeOf bendOf starts slopes bends add mul sum round size span climb units odd ofBits ofFields toBits lt le eq isNan trailingZeros
 at-minus-three = tt
 
-three-fits : T (fits binary32 (fin true 3 (pos 0)))
-unfolding fits
-three-fits = tt
-
-pub pow10-from-minus-three : (x : Float) → T (fits binary32 x) → T (le (fin true 3 (pos 0)) x) → T (le x nought) → T (le (ofBits binary32 0x3a81c2e3) (pow10 x)) × T (le (pow10 x) one)
-pow10-from-minus-three x p h k = (
-  le-trans binary32 (ofBits binary32 0x3a81c2e3) (pow10 (fin true 3 (pos 0))) (pow10 x) (ofBits-fits binary32 0x3a81c2e3) (pow10-fits (fin true 3 (pos 0))) (pow10-fits x) at-minus-three (pow10-like .never-falls (fin true 3 (pos 0)) x three-fits p h),
-  at-most-one pow10-like x p k,
+pub pow10-from-minus-three : (x : Float) → T (le (fin true 3 (pos 0)) x) → T (le x nought) → T (le (ofBits binary32 0x3a81c2e3) (pow10 x)) × T (le (pow10 x) one)
+pow10-from-minus-three x h k = (
+  le-trans binary32 (ofBits binary32 0x3a81c2e3) (pow10 (fin true 3 (pos 0))) (pow10 x) (ofBits-fits binary32 0x3a81c2e3) (pow10-fits (fin true 3 (pos 0))) (pow10-fits x) at-minus-three (pow10-like .never-falls (fin true 3 (pos 0)) x h),
+  at-most-one pow10-like x k,
 )
 
 -- ---- a level at or below 0 dB, minus infinity too
@@ -82,4 +78,4 @@ level-falls (fin s m e) h = subst (λ (z : Float). T (le (div binary32 (fin s m 
 
 pub dbToGain-in-unit : (db : Float) → T (le db nought) → T (le nought (dbToGain db)) × T (le (dbToGain db) one)
 unfolding dbToGain
-dbToGain-in-unit db h = in-unit pow10-like (div binary32 db (ofBits binary32 0x41a00000)) (div-fits binary32 db (ofBits binary32 0x41a00000)) (level-falls db h)
+dbToGain-in-unit db h = in-unit pow10-like (div binary32 db (ofBits binary32 0x41a00000)) (level-falls db h)

@@ -18,3 +18,4 @@ pub mod ToBits
 pub mod PatternOrder
 pub mod Naturals
 pub mod Halves
+pub mod Through

@@ -1,24 +1,20 @@
--- Over the format: patterns up to the infinity's stand for values in their order, every number is at most the infinity, and `<` and `<=` go on from one to the other.
+-- Over the format: patterns up to the infinity's stand for values in their order, sizes in order have patterns in order, and every number lies between the infinities.
 use Prim.Native.Nat.{ℕ, _+_, _-_, _*_, _/_, _^_, _≤_, _<_}
 use native.Mathlib.Nat.{le-trans, le-of-eq, le-of-lt, lt-of-lt-of-le, eq-or-lt-of-le, mul-comm, mul-right-comm, mul-le-mul-right, mul-lt-mul-of-pos-right, add-mul, div-lt-iff-lt-mul}
 use native.Mathlib.Omega.{arith}
 use mathlib.Core.Path.{_≡_, refl, sym, ap, _∙_, subst, subst⁻¹}
 use mathlib.Core.Logic.{inl, inr}
 use mathlib.Core.Bool.{Bool, true, false, not, _||_}
-use borrow.Author.Tests.{ltb-true, lt-ltb}
 use lib.IntN.{ℤ}
 use lib.Dec.{T}
 use lib.Pow.{pow-pos, pow-add}
-use lib.Ieee.{Float, nan, inf, fin, Format, binary32, binary64, prec, low, hid, ones, up, down, size, toBits, lt, le, eq, fits, isNan, ofBits, ofFields}
+use lib.Ieee.{Float, nan, inf, fin, Format, binary32, binary64, prec, low, hid, ones, up, down, size, toBits, lt, le, eq, isNan, ofBits, ofFields}
 use lib.Ieee.Bits.{nanBits-is}
 use lib.Ieee.Digits.{size-le}
 use lib.Ieee.Fits.{down-pos, kept-lt, two}
 use lib.Ieee.Nearest.{div-mono}
-use Rattle.floats.proofs.Keys.{key, lt-key}
 use Rattle.floats.proofs.Narrow.{no-nan}
-use Rattle.floats.proofs.Numbers.{le-left-number, le-right-number}
 use Rattle.floats.proofs.Patterns.{bits-mono}
-use Rattle.floats.proofs.Rules.{le→key}
 use Rattle.floats.proofs.ToBits.{mag-mono}
 
 -- ---- the infinities
@@ -36,26 +32,10 @@ inf-le (inf true) u = tt
 inf-le (inf false) u = tt
 inf-le (fin s m e) u = tt
 
--- ---- a test that passed, and one after the other
+-- ---- a test that passed
 pub lt→le : (x y : Float) → lt x y ≡ true → T (le x y)
 unfolding le
 lt→le x y h = subst⁻¹ (λ (b : Bool). T (b || eq x y)) h tt
-
-module _ (f : Format) where
-  pub lt→key : (x y : Float) → T (fits f x) → T (fits f y) → lt x y ≡ true → key f x < key f y
-  lt→key x y p q h = ltb-true (key f x) (key f y) (sym (lt-key f x y p q (le-left-number x y (lt→le x y h)) (le-right-number x y (lt→le x y h))) ∙ h)
-
-  pub le-lt : (x y z : Float) → T (fits f x) → T (fits f y) → T (fits f z) → T (le x y) → lt y z ≡ true → lt x z ≡ true
-  le-lt x y z p q r h k =
-      let a = le→key f x y p q h in
-      let b = lt→key y z q r k in
-      lt-key f x z p r (le-left-number x y h) (le-right-number y z (lt→le y z k)) ∙ lt-ltb (key f x) (key f z) (omega arith)
-
-  pub lt-le : (x y z : Float) → T (fits f x) → T (fits f y) → T (fits f z) → lt x y ≡ true → T (le y z) → lt x z ≡ true
-  lt-le x y z p q r h k =
-      let a = lt→key x y p q h in
-      let b = le→key f y z q r k in
-      lt-key f x z p r (le-left-number x y (lt→le x y h)) (le-right-number y z k) ∙ lt-ltb (key f x) (key f z) (omega arith)
 
 -- ---- patterns
 pub pattern-number : (f : Format) (p : ℕ) → p ≤ ones f * hid f → T (not (isNan (ofBits f p)))
