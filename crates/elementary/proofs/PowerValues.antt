@@ -45,14 +45,14 @@ pow10-fits : (x : Float) → T (fits binary32 (pow10 x))
 unfolding pow10
 pow10-fits x = power-fits (ofBits binary64 0x400a934f0979a371) x
 
--- ---- 10^x for x from -3 to 0: at least 0.00099 (the nearest f32), at most 1
-at-minus-three : T (le (ofBits binary32 0x3a81c2e3) (pow10 (fin true 3 (pos 0))))
+-- ---- 10^x for x from -3 to 0: at least the first f32 above 0.00099, at most 1
+at-minus-three : T (le (ofBits binary32 0x3a81c2e4) (pow10 (fin true 3 (pos 0))))
 unfolding pow10 power edged lifted powerBits placed mantissa startOf slopeOf bendOf starts slopes bends add mul sum round size span climb units odd ofBits ofFields toBits lt le eq isNan trailingZeros
 at-minus-three = tt
 
-pub pow10-from-minus-three : (x : Float) → T (le (fin true 3 (pos 0)) x) → T (le x nought) → T (le (ofBits binary32 0x3a81c2e3) (pow10 x)) × T (le (pow10 x) one)
+pub pow10-from-minus-three : (x : Float) → T (le (fin true 3 (pos 0)) x) → T (le x nought) → T (le (ofBits binary32 0x3a81c2e4) (pow10 x)) × T (le (pow10 x) one)
 pow10-from-minus-three x h k = (
-  le-trans binary32 (ofBits binary32 0x3a81c2e3) (pow10 (fin true 3 (pos 0))) (pow10 x) (ofBits-fits binary32 0x3a81c2e3) (pow10-fits (fin true 3 (pos 0))) (pow10-fits x) at-minus-three (pow10-like .never-falls (fin true 3 (pos 0)) x h),
+  le-trans binary32 (ofBits binary32 0x3a81c2e4) (pow10 (fin true 3 (pos 0))) (pow10 x) (ofBits-fits binary32 0x3a81c2e4) (pow10-fits (fin true 3 (pos 0))) (pow10-fits x) at-minus-three (pow10-like .never-falls (fin true 3 (pos 0)) x h),
   at-most-one pow10-like x k,
 )
 

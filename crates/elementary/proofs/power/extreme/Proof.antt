@@ -45,10 +45,10 @@ add-result : tie.Need-add-result
 add-result c = omega (arith, kept (c .before .before .args .m) (first - c .before .before .args .n) (c .before .before .pre .2))
 
 cast-result : tie.Need-cast-result
-cast-result c = omega (arith, under (c .before .before .args .m) (first - c .before .before .args .n) (c .before .before .pre .2))
+cast-result c = omega (arith, kept (c .before .before .args .m) (first - c .before .before .args .n) (c .before .before .pre .2))
 
 float-from-bits-result-2 : tie.Need-float-from-bits-result-2
-float-from-bits-result-2 c = no-nan binary32 _ (under (c .before .before .args .m) (first - c .before .before .args .n) (c .before .before .pre .2))
+float-from-bits-result-2 c = no-nan binary32 _ (omega (arith, kept (c .before .before .args .m) (first - c .before .before .args .n) (c .before .before .pre .2)))
 
 below : (n m : ℕ) → n < first → m < 9223372036854775808 → placed32 n m ≡ (m / 2 ^ (first - n) + 274877906944) / 549755813888
 below n m h k = placed-below 8388608 274877906944 2139095040 first n m (le-of-lt h) (under m (first - n) k)

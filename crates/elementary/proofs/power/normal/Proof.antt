@@ -24,7 +24,7 @@ cast-result : tie.Need-cast-result
 cast-result c = search needs
 
 float-from-bits-result : tie.Need-float-from-bits-result
-float-from-bits-result c = no-nan binary32 (c .args .k * 8388608 + (c .args .m + 274877906944) / 549755813888) (under (c .args .k) (c .args .m) (c .pre .0) (c .pre .1))
+float-from-bits-result c = no-nan binary32 _ (omega arith)
 
 returns : tie.Need-returns
 returns c = ap (ofBits binary32) (sym (placed-above 8388608 274877906944 2139095040 0x41380001 (c .args .k) (c .args .m) (under (c .args .k) (c .args .m) (c .pre .0) (c .pre .1))))

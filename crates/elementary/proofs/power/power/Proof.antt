@@ -3,7 +3,7 @@ use mathlib.Core.Path.{_≡_, sym, _∙_, subst}
 use mathlib.Core.Bool.{Bool, true, not}
 use native.Mathlib.Omega.{arith}
 use lib.Dec.{T}
-use lib.Ieee.{Float, binary32, binary64, fits, isNan, mul, lt, neg, ofBits}
+use lib.Ieee.{Float, binary32, binary64, fits, isNan, add, mul, lt, neg, ofBits}
 use lib.Ieee.Fits.{fits-widens, and-i}
 use lib.Ieee.Scale.{finite}
 use denote.Floats.{passes}
@@ -18,9 +18,8 @@ use Rattle.elementary.proofs.power.power.Tie as tie
 number : (x : Float) → lt x upper-edge ≡ true → T (not (isNan x))
 number x h = subst (λ (b : Bool). T (not b)) (sym (lt-left-number x upper-edge h)) tt
 
-lifted-number : (c x : Float) → T (finite c) → lt x upper-edge ≡ true → lt lower-edge x ≡ true → T (not (isNan (lifted c x)))
-unfolding lifted ofBits
-lifted-number c x u h k = add-number binary64 (mul binary64 x c) (ofBits binary64 0x4138007f00000000) (mul-number binary64 x c (inside-finite lower-edge x upper-edge tt tt k h) u) tt
+z-number : (c x k : Float) → T (finite c) → T (finite k) → lt x upper-edge ≡ true → lt lower-edge x ≡ true → T (not (isNan (add binary64 (mul binary64 x c) k)))
+z-number c x k u v h l = add-number binary64 (mul binary64 x c) k (mul-number binary64 x c (inside-finite lower-edge x upper-edge tt tt l h) u) v
 
 float-to-float-z : tie.Need-float-to-float-z
 unfolding ofBits
@@ -29,8 +28,8 @@ float-to-float-z c =
     and-i (fits binary64 x) (not (isNan x)) (fits-widens x (passes _ (c .before .before .before .good .0 .1))) (number x (c .before .before .if1 .taken))
 
 float-to-bits-placed-at : tie.Need-float-to-bits-placed-at
-unfolding lifted ofBits neg
-float-to-bits-placed-at c = lifted-number (c .before .before .before .args .c) (c .before .before .before .args .x) (c .before .before .before .pre) (c .before .before .if1 .taken) (c .before .if2 .taken)
+unfolding ofBits neg
+float-to-bits-placed-at c = z-number (c .before .before .before .args .c) (c .before .before .before .args .x) _ (c .before .before .before .pre) tt (c .before .before .if1 .taken) (c .before .if2 .taken)
 
 placed-at-requires : tie.Need-placed-at-requires
 placed-at-requires c κs = search needs
