@@ -3,7 +3,7 @@ use mathlib.Core.Path.{_≡_, refl, ap, _∙_, subst}
 use mathlib.Core.Logic.{inl, inr}
 use mathlib.Core.Bool.{Bool, true, false}
 use Prim.Native.Nat.{ℕ, zero, suc, zero-le, _+_, _-_, _*_, _/_, _%_, _^_, _≤_, _<_}
-use native.Mathlib.Nat.{le-refl, le-trans, le-of-eq, mod-eq-of-lt, mul-assoc, mul-pos, mul-le-mul, mul-le-mul-right, eq-or-lt-of-le, zero-mul, zero-div, zero-lt-suc}
+use native.Mathlib.Nat.{le-add-right, le-refl, le-trans, le-of-eq, mod-eq-of-lt, mul-assoc, mul-pos, mul-le-mul, mul-le-mul-right, eq-or-lt-of-le, zero-mul, zero-div, zero-lt-suc}
 use native.Mathlib.Omega.{arith}
 use lib.Count.{trailingZeros}
 use lib.IntN.{ℤ, pos, negsuc}
@@ -13,7 +13,7 @@ use lib.Ieee.{Float, nan, inf, fin, binary64, up, down, size, span, climb, odd, 
 use lib.Ieee.Fits.{up-pos, down-pos}
 use borrow.Author.Tests.{ltb-true, lt-ltb, le-ltb}
 use Rattle.floats.proofs.Mono.{le→signed}
-use Rattle.floats.proofs.Naturals.{div-rises, shifted-less}
+use Rattle.floats.proofs.Naturals.{sum-rises, div-rises, shifted-less}
 use Rattle.floats.proofs.PatternOrder.{patterns-rise, bits-under, sizes-rise}
 use Rattle.floats.proofs.Sat.{no}
 use Rattle.floats.proofs.Sign.{negative-is}
@@ -24,9 +24,6 @@ use Rattle.elementary.proofs.PlacedRises.{placed-climbs, placed-rises, 
 use Rattle.elementary.proofs.PowerLike.{nought, PowerLike}
 
 -- ---- the polynomial
-plus : (k : ℕ) {a b : ℕ} → a ≤ b → k + a ≤ k + b
-plus k h = omega arith
-
 high-rises : {f g a b : ℕ} → f ≤ g → a ≤ b → high f a ≤ high g b
 unfolding high
 high-rises h k = div-rises (pow-pos 64) (mul-le-mul h k)
@@ -37,15 +34,12 @@ half-rises k h = omega arith
 pub expMantissa-rises : {f g : ℕ} → f ≤ g → expMantissa f ≤ expMantissa g
 unfolding expMantissa
 expMantissa-rises {f} {g} h =
-    half-rises 9223372036854775808 (high-rises h (plus 12786308645202667078 (high-rises h (plus 4431396893595047327 (high-rises h (plus 1023870087593729323 (high-rises h (plus 177423165967312138 (high-rises h (plus 24596074363141346
-    (high-rises h (plus 2841446494121437 (high-rises h (plus 281371416557637 (high-rises h (plus 24365137105993 (high-rises h (plus 1891383853468 (high-rises h (plus 121001960384 (high-rises h (le-refl 11554055366))))))))))))))))))))))
+    half-rises 9223372036854775808 (high-rises h (sum-rises 12786308645202667078 (high-rises h (sum-rises 4431396893595047327 (high-rises h (sum-rises 1023870087593729323 (high-rises h (sum-rises 177423165967312138 (high-rises h (sum-rises 24596074363141346
+    (high-rises h (sum-rises 2841446494121437 (high-rises h (sum-rises 281371416557637 (high-rises h (sum-rises 24365137105993 (high-rises h (sum-rises 1891383853468 (high-rises h (sum-rises 121001960384 (high-rises h (le-refl 11554055366))))))))))))))))))))))
 
 pub expMantissa-low : (f : ℕ) → 9223372036854775808 ≤ expMantissa f
 unfolding expMantissa
-expMantissa-low f = more 9223372036854775808 _
-  where
-    more : (a b : ℕ) → a ≤ a + b
-    more a b = omega arith
+expMantissa-low f = le-add-right 9223372036854775808 _
 
 at-last : expMantissa 18446744073709551615 ≤ 18446744073709551615
 unfolding expMantissa high
@@ -175,7 +169,7 @@ none-of-none (suc m) e c C h = absurd (some (suc m * up e * c) (mul-pos (mul-pos
 sides-rise : (s : Bool) (m : ℕ) (e : ℤ) (t : Bool) (n : ℕ) (d : ℤ) → Inside (fin s m e) → Inside (fin t n d) → T (le (fin s m e) (fin t n d)) → sided (toBits binary64 (fin s m e)) ≤ sided (toBits binary64 (fin t n d))
 sides-rise false m e false n d i j h =
     let c = le→signed false m e false n d h in
-    rw (sided-positive m e i, sided-positive n d j) (plus 9223372036854775808 (scaled-rises (bits m e) (bits n d) (sizes-rise binary64 m e n d (omega (arith, zero-mul (down e), zero-mul (down d)))) (bits-inside false n d j)))
+    rw (sided-positive m e i, sided-positive n d j) (sum-rises 9223372036854775808 (scaled-rises (bits m e) (bits n d) (sizes-rise binary64 m e n d (omega (arith, zero-mul (down e), zero-mul (down d)))) (bits-inside false n d j)))
 sides-rise true m e true n d i j h =
     let c = le→signed true m e true n d h in
     rw (sided-negative m e i, sided-negative n d j) (less (scaled-rises (bits n d) (bits m e) (sizes-rise binary64 n d m e (omega (arith, zero-mul (down e), zero-mul (down d)))) (bits-inside true m e i)))

@@ -5,14 +5,11 @@ use Prim.Native.Nat.{ℕ, _+_, _-_, _*_, _/_, _^_, _≤_, _<_, min}
 use native.Mathlib.Nat.{le-trans, le-of-eq, mul-assoc, mul-le-mul-right, mul-le-mul-left, add-mul, one-mul, div-one, div-le-self, mul-add-div-right, div-eq-of-lt, add-zero}
 use native.Mathlib.Omega.{arith}
 use lib.Pow.{shr-mono}
-use Rattle.floats.proofs.Naturals.{le-or-lt, div-rises, shifted-less}
+use Rattle.floats.proofs.Naturals.{le-or-lt, sum-rises, div-rises, shifted-less}
 use Rattle.elementary.specs.Placed.{placed}
 
 min-rises : (z : ℕ) {x y : ℕ} → x ≤ y → min x z ≤ min y z
 min-rises z h = omega arith
-
-plus : (k : ℕ) {a b : ℕ} → a ≤ b → k + a ≤ k + b
-plus k h = omega arith
 
 module _ (hid half infinity k : ℕ) (H : 0 < half) where
   abbrev near : ℕ → ℕ
@@ -39,7 +36,7 @@ module _ (hid half infinity k : ℕ) (H : 0 < half) where
     below-field l h =
         let a : n - k ≡ 0 = omega arith in
         let b : n' - k ≡ 0 = omega arith in
-        rw (a, b) (plus (0 * hid) (near-rises (shifted-less m m' (k - n) (k - n') (le-trans M (mul-le-mul-left 2 M')) (omega arith))))
+        rw (a, b) (sum-rises (0 * hid) (near-rises (shifted-less m m' (k - n) (k - n') (le-trans M (mul-le-mul-left 2 M')) (omega arith))))
 
     above-field : n < n' → k < n' → (n - k) * hid + near (m / 2 ^ (k - n)) ≤ (n' - k) * hid + near (m' / 2 ^ (k - n'))
     above-field l h =
@@ -53,7 +50,7 @@ module _ (hid half infinity k : ℕ) (H : 0 < half) where
 
   pub placed-rises : (n : ℕ) {m m' : ℕ} → m ≤ m' → placed hid half infinity k n m ≤ placed hid half infinity k n m'
   unfolding placed
-  placed-rises n h = min-rises infinity (plus ((n - k) * hid) (near-rises (shr-mono (k - n) h)))
+  placed-rises n h = min-rises infinity (sum-rises ((n - k) * hid) (near-rises (shr-mono (k - n) h)))
 
 pub placed-under : (hid half infinity k n m : ℕ) → placed hid half infinity k n m ≤ infinity
 unfolding placed

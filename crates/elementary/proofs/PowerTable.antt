@@ -3,12 +3,12 @@ use mathlib.Core.Path.{_≡_, refl, subst, subst⁻¹}
 use mathlib.Core.Bool.{Bool, _&&_}
 use mathlib.Core.Logic.{inl, inr}
 use Prim.Native.Nat.{ℕ, zero, suc, zero-le, _+_, _-_, _*_, _/_, _%_, _^_, _≤_, _<_}
-use native.Mathlib.Nat.{le-refl, le-trans, lt-of-lt-of-le, mul-le-mul, mul-le-mul-left, eq-or-lt-of-le, le-of-suc-le-suc}
+use native.Mathlib.Nat.{le-add-right, le-refl, le-trans, lt-of-lt-of-le, mul-le-mul, mul-le-mul-left, eq-or-lt-of-le, le-of-suc-le-suc}
 use native.Mathlib.Omega.{arith}
 use lib.Dec.{T, ltb, leb, leb→le, ltb→lt}
 use lib.Pow.{pow-pos}
 use lib.Ieee.Fits.{and-l, and-r}
-use Rattle.floats.proofs.Naturals.{div-rises}
+use Rattle.floats.proofs.Naturals.{sum-rises, div-rises}
 use Rattle.floats.proofs.Tables.{all, from}
 use Rattle.elementary.specs.PowerCells.{starts, slopes, bends, startOf, slopeOf, bendOf}
 use Rattle.elementary.specs.Power.{curve, inCell, mantissa}
@@ -81,17 +81,11 @@ joined i h =
     }
 
 -- ---- the curve never falls: in a cell by its form, from cell to cell by the test
-plus : (k : ℕ) {a b : ℕ} → a ≤ b → k + a ≤ k + b
-plus k h = omega arith
-
 curve-rises : (t s b : ℕ) {p r : ℕ} → p ≤ r → curve t s b p ≤ curve t s b r
-curve-rises t s b {p} {r} h = plus t (mul-le-mul h (plus s (div-rises (pow-pos 26) (mul-le-mul-left b h))))
+curve-rises t s b {p} {r} h = sum-rises t (mul-le-mul h (sum-rises s (div-rises (pow-pos 26) (mul-le-mul-left b h))))
 
 curve-above : (t s b r : ℕ) → t ≤ curve t s b r
-curve-above t s b r = more t _
-  where
-    more : (a c : ℕ) → a ≤ a + c
-    more a c = omega arith
+curve-above t s b r = le-add-right t _
 
 start-next : (i : ℕ) → i < 64 → startOf i ≤ startOf (suc i)
 start-next i h = le-trans (curve-above (startOf i) (slopeOf i) (bendOf i) 67108863) (joined i h .rises)

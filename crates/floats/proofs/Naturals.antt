@@ -1,8 +1,9 @@
--- Natural numbers: one of two is not above the other, and quotients keep the order.
+-- Natural numbers: one of two is not above the other, and sums and quotients keep the order.
 use mathlib.Core.Path.{sym, ap, _∙_}
 use mathlib.Core.Logic.{_⊎_, ⊎-elim, inl, inr}
-use Prim.Native.Nat.{ℕ, zero, suc, zero-le, suc-le-suc, _*_, _/_, _^_, _≤_, _<_}
+use Prim.Native.Nat.{ℕ, zero, suc, zero-le, suc-le-suc, _+_, _*_, _/_, _^_, _≤_, _<_}
 use native.Mathlib.Nat.{le-trans, le-of-eq, mul-assoc, mul-comm, mul-le-mul-right, mul-le-mul-left, pow-succ'}
+use native.Mathlib.Omega.{arith}
 use lib.Pow.{pow-pos, pow-mono}
 use lib.Ieee.Nearest.{div-mono}
 
@@ -10,6 +11,9 @@ pub le-or-lt : (a b : ℕ) → (a ≤ b) ⊎ (b < a)
 le-or-lt zero b = inl zero-le
 le-or-lt (suc a) zero = inr (suc-le-suc zero-le)
 le-or-lt (suc a) (suc b) = ⊎-elim (λ p. inl (suc-le-suc p)) (λ q. inr (suc-le-suc q)) (le-or-lt a b)
+
+pub sum-rises : (k : ℕ) {a b : ℕ} → a ≤ b → k + a ≤ k + b
+sum-rises k h = omega arith
 
 pub div-rises : {a b d : ℕ} → 0 < d → a ≤ b → a / d ≤ b / d
 div-rises {a} {b} {d} D h = div-mono a d b d D D (mul-le-mul-right d h)
