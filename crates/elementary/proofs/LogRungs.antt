@@ -16,7 +16,8 @@ use lib.Ieee.Fits.{add-fits, and-l, and-r, down-pos}
 use lib.Ieee.Order.{le-of-values}
 use lib.Ieee.Scale.{finite, round-same}
 use Rattle.floats.proofs.Rescaled.{powers-join}
-use Rattle.floats.proofs.Rules.{add-mono, le-trans}
+use Rattle.floats.proofs.Rules.{add-number, finite-number, le-trans}
+use Rattle.floats.proofs.Rising.{add-rises}
 use Rattle.floats.proofs.Tables.{all, all-at}
 
 -- ---- f units of 2^-24, exact
@@ -80,7 +81,10 @@ climb-one j h = and-r (finite (whole j)) (le (answer j 16777215) (answer (suc j)
 
 -- on one rung
 pub along : (j f g : ℕ) → j < 277 → f ≤ g → g < 2 ^ 24 → T (le (answer j f) (answer j g))
-along j f g h l k = add-mono binary32 (part f) (part g) (whole j) (part-finite f (N.lt-of-le-of-lt l k)) (part-finite g k) (whole-finite j h) (part-le f g l k)
+along j f g h l k =
+    add-rises binary32 (part f) (part g) (whole j) (part-le f g l k)
+    (add-number binary32 (part f) (whole j) (finite-number binary32 (part f) (part-finite f (N.lt-of-le-of-lt l k))) (whole-finite j h))
+    (add-number binary32 (part g) (whole j) (finite-number binary32 (part g) (part-finite g k)) (whole-finite j h))
 
 via : (i f j g k h : ℕ) → T (le (answer i f) (answer j g)) → T (le (answer j g) (answer k h)) → T (le (answer i f) (answer k h))
 via i f j g k h a b = le-trans binary32 (answer i f) (answer j g) (answer k h) (add-fits binary32 (part f) (whole i)) (add-fits binary32 (part g) (whole j)) (add-fits binary32 (part h) (whole k)) a b

@@ -11,7 +11,7 @@ use lib.Ieee.{Float, nan, inf, fin, binary32, fits, up, down}
 use lib.Ieee.Exact.{HasValue}
 use lib.Ieee.Digits.{back}
 use lib.Ieee.Positive.{positive}
-use Rattle.floats.proofs.Compared.{le-or-lt}
+use Rattle.floats.proofs.Naturals.{le-or-lt}
 use Rattle.floats.proofs.Rescaled.{rescale, one-value, powers-join, powers-move}
 use Rattle.floats.proofs.Values.{fine, steps, steps-are}
 use Rattle.elementary.specs.Sqrt.{square, Nearest, sqrtOf, Rounded, Closest}

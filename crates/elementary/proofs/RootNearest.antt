@@ -12,7 +12,7 @@ use lib.Ieee.Bits.{ofBits-toBits}
 use lib.Ieee.Exact.{HasValue}
 use lib.Ieee.Positive.{positive}
 use borrow.Author.Tests.{eqb-true, eqb-false}
-use Rattle.floats.proofs.Compared.{le-or-lt}
+use Rattle.floats.proofs.Naturals.{le-or-lt}
 use Rattle.floats.proofs.Patterns.{val, bits-value}
 use Rattle.floats.proofs.PositiveBits.{positive-above, positive-under}
 use Rattle.floats.proofs.Rescaled.{rescale, one-value, powers-join, powers-move}

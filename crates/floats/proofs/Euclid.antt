@@ -111,7 +111,7 @@ module _ (f : Format) (s : Bool) (a : ℕ) (e : ℤ) (n : ℕ) (d : ℤ) (q : T 
       plain x y = ap (λ (z : ℕ). z * y) (omega (arith, zero-mul y)) ∙ ap (λ (z : ℕ). x * z) (sym (one-mul y))
 
   sum-number : (x : Float) → T (finite x) → T (not (isNan (add f x m)))
-  sum-number x h = add-number f x m h tt
+  sum-number x h = add-number f x m (finite-number f x h) tt
 
   finite-rem : T (finite r)
   finite-rem = between-finite f (neg m) r m (neg-finite f m tt) tt rem-least rem-most

@@ -24,7 +24,11 @@ pub mod Casting
 pub mod Patterns
 pub mod ToBits
 pub mod Tables
+pub mod Same
 pub mod PositiveBits
-pub mod Arms
-pub mod Compared
 pub mod Rescaled
+pub mod Numbers
+pub mod PatternOrder
+pub mod Naturals
+pub mod Halves
+pub mod Through

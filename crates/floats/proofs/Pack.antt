@@ -133,7 +133,7 @@ over-inf f k q h g l =
     emax-pos binary32 = lit< tt
     emax-pos binary64 = lit< tt
 
-inf-pattern : (f : Format) → ofBits f (ones f * hid f) ≡ inf false
+pub inf-pattern : (f : Format) → ofBits f (ones f * hid f) ≡ inf false
 unfolding ofBits
 inf-pattern binary32 = refl
 inf-pattern binary64 = refl

@@ -12,12 +12,9 @@ use lib.Ieee.Fits.{kept-lt, up-pos, down-pos}
 use lib.Ieee.Positive.{positive, positive-of-value}
 use Rattle.floats.proofs.Values.{fine}
 use Rattle.floats.proofs.Keys.{mag-under}
+use Rattle.floats.proofs.Pack.{twice}
 use Rattle.floats.proofs.Patterns.{bits-value, val}
 use Rattle.floats.proofs.ToBits.{bits-are}
-
-twice : (f : Format) → 2 ^ prec f ≡ 2 * hid f
-twice binary32 = refl
-twice binary64 = refl
 
 -- below an infinity: k digits are dropped, at most 2 * emax - 1
 limit : (f : Format) → low f + suc (emax f) - prec f + 2 ≡ ones f

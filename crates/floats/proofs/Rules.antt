@@ -6,14 +6,11 @@ use mathlib.Core.Bool.{Bool, true, false, not, cond, _&&_, _||_, Bool·beq}
 use borrow.Author.Tests.{ltb-false}
 use lib.Dec.{T, ltb, leb→le, le→leb}
 use lib.Ieee.{Float, nan, inf, fin, Format, up, down, round, sum, add, sub, neg, lt, le, eq, fits, isNan}
-use lib.Ieee.Fits.{add-fits, neg-fits, round-fits, down-pos}
 use lib.Ieee.Scale.{finite}
-use Rattle.floats.specs.Convert.{convert}
 use lib.Ieee.Bits.{is-true}
 use Rattle.floats.proofs.Facts.{eq-self}
 use Rattle.floats.proofs.Floor.{round-number, cond-number}
-use Rattle.floats.proofs.Keys.{key, le-key, lt-key, key-neg}
-use Rattle.floats.proofs.Mono.{add-up, add-swap, round-kz, kz-mono, le→signed, plus, minus}
+use Rattle.floats.proofs.Keys.{key, le-key, lt-key}
 
 -- what is compared with success is no NaN
 pub le-left : (x y : Float) → T (le x y) → T (not (isNan x))
@@ -63,25 +60,15 @@ module _ (f : Format) where
       cond-number (Bool·beq s t) (round f s (a + b) c) (cond (ltb a b) (round f t (b - a) c) (round f (s && ltb b a) (a - b) c)) (round-number f s (a + b) c)
       (cond-number (ltb a b) (round f t (b - a) c) (round f (s && ltb b a) (a - b) c) (round-number f t (b - a) c) (round-number f (s && ltb b a) (a - b) c))
 
-  pub add-number : (x y : Float) → T (finite x) → T (finite y) → T (not (isNan (add f x y)))
-  unfolding add
+  pub add-number : (x y : Float) → T (not (isNan x)) → T (finite y) → T (not (isNan (add f x y)))
+  unfolding add isNan
   add-number nan y u v = absurd u
-  add-number (inf s) y u v = absurd u
+  add-number (inf s) nan u v = absurd v
+  add-number (inf s) (inf t) u v = absurd v
+  add-number (inf s) (fin t n d) u v = tt
   add-number (fin s m e) nan u v = absurd v
   add-number (fin s m e) (inf t) u v = absurd v
   add-number (fin s m e) (fin t n d) u v = sum-number s (m * up e * down d) t (n * up d * down e) (down e * down d)
-
-  pub add-mono : (x x' y : Float) → T (finite x) → T (finite x') → T (finite y) → T (le x x') → T (le (add f x y) (add f x' y))
-  add-mono x x' y u u' v h = key→le (add f x y) (add f x' y) (add-fits f x y) (add-fits f x' y) (add-number x y u v) (add-number x' y u' v) (go x x' y u u' v h)
-    where
-      go : (x x' y : Float) → T (finite x) → T (finite x') → T (finite y) → T (le x x') → key f (add f x y) ≤ key f (add f x' y)
-      go (fin s m e) (fin t n d) (fin w k g) u u' v h = add-up f s m e t n d w k g h
-      go nan x' y u u' v h = absurd u
-      go (inf s) x' y u u' v h = absurd u
-      go (fin s m e) nan y u u' v h = absurd u'
-      go (fin s m e) (inf t) y u u' v h = absurd u'
-      go (fin s m e) (fin t n d) nan u u' v h = absurd v
-      go (fin s m e) (fin t n d) (inf w) u u' v h = absurd v
 
   -- only a finite number's difference from itself is a number
   pub self-apart : (x : Float) → eq (sub f x x) (sub f x x) ≡ finite x
@@ -97,31 +84,6 @@ module _ (f : Format) where
   neg-finite (inf s) h = h
   neg-finite (fin s m e) h = tt
 
-  pub neg-anti : (x y : Float) → T (fits f x) → T (fits f y) → T (finite x) → T (finite y) → T (le x y) → T (le (neg y) (neg x))
-  neg-anti x y p q u v h =
-      key→le (neg y) (neg x) (neg-fits f y q) (neg-fits f x p) (finite-number (neg y) (neg-finite y v)) (finite-number (neg x) (neg-finite x u))
-      (omega (arith, key-neg f x p (finite-number x u), key-neg f y q (finite-number y v), le→key x y p q h))
-
-  pub add-mono-right : (x y y' : Float) → T (finite x) → T (finite y) → T (finite y') → T (le y y') → T (le (add f x y) (add f x y'))
-  add-mono-right x y y' u v v' h = key→le (add f x y) (add f x y') (add-fits f x y) (add-fits f x y') (add-number x y u v) (add-number x y' u v') (go x y y' u v v' h)
-    where
-      go : (x y y' : Float) → T (finite x) → T (finite y) → T (finite y') → T (le y y') → key f (add f x y) ≤ key f (add f x y')
-      go (fin w k g) (fin s m e) (fin t n d) u v v' h = rw (add-swap f w k g s m e, add-swap f w k g t n d) (add-up f s m e t n d w k g h)
-      go nan y y' u v v' h = absurd u
-      go (inf s) y y' u v v' h = absurd u
-      go (fin s m e) nan y' u v v' h = absurd v
-      go (fin s m e) (inf t) y' u v v' h = absurd v
-      go (fin s m e) (fin t n d) nan u v v' h = absurd v'
-      go (fin s m e) (fin t n d) (inf w) u v v' h = absurd v'
-
-  pub sub-mono : (x x' y : Float) → T (finite x) → T (finite x') → T (finite y) → T (le x x') → T (le (sub f x y) (sub f x' y))
-  unfolding sub
-  sub-mono x x' y u u' v h = add-mono x x' (neg y) u u' (neg-finite y v) h
-
-  pub sub-anti : (x y y' : Float) → T (fits f y) → T (fits f y') → T (finite x) → T (finite y) → T (finite y') → T (le y y') → T (le (sub f x y') (sub f x y))
-  unfolding sub
-  sub-anti x y y' p q u v v' h = add-mono-right x (neg y') (neg y) u (neg-finite y' v') (neg-finite y v) (neg-anti y y' p q v v' h)
-
   -- what lies between two finite numbers is one
   pub between-finite : (lo x hi : Float) → T (finite lo) → T (finite hi) → T (le lo x) → T (le x hi) → T (finite x)
   unfolding le lt eq
@@ -133,15 +95,3 @@ module _ (f : Format) where
   between-finite (fin s m e) (inf false) (inf t) u v h k = absurd v
   between-finite (fin s m e) (inf false) (fin t n d) u v h k = absurd k
   between-finite (fin s m e) (fin t n d) hi u v h k = tt
-
-  -- rounding to a format keeps the order
-  pub convert-mono : (x y : Float) → T (finite x) → T (finite y) → T (le x y) → T (le (convert f x) (convert f y))
-  unfolding convert
-  convert-mono nan y u v h = absurd u
-  convert-mono (inf s) y u v h = absurd u
-  convert-mono (fin s m e) nan u v h = absurd v
-  convert-mono (fin s m e) (inf t) u v h = absurd v
-  convert-mono (fin s m e) (fin t n d) u v h =
-      key→le (round f s (m * up e) (down e)) (round f t (n * up d) (down d)) (round-fits f s (m * up e) (down e)) (round-fits f t (n * up d) (down d)) (round-number f s (m * up e) (down e)) (round-number f t (n * up d) (down d))
-      (rw (round-kz f s (m * up e) (down e) (down-pos e), round-kz f t (n * up d) (down d) (down-pos d))
-      (kz-mono f (plus s (m * up e)) (minus s (m * up e)) (down e) (plus t (n * up d)) (minus t (n * up d)) (down d) (down-pos e) (down-pos d) (le→signed s m e t n d h)))

@@ -1,13 +1,13 @@
--- A claim about every number below a bound, or about every entry of a table, from one test that antt computes.
-use mathlib.Core.Path.{subst⁻¹}
-use mathlib.Core.Logic.{inl, inr}
+-- Tables: one computed test of a rule over all entries, and what the last arm of a `match` knows.
+use mathlib.Core.Path.{_≡_, sym, subst⁻¹}
 use mathlib.Core.Bool.{Bool, true, _&&_}
-use Prim.Native.Nat.{ℕ, zero, suc, _<_}
-use native.Mathlib.Nat.{eq-or-lt-of-le, not-suc-le-zero, le-of-suc-le-suc}
+use mathlib.Core.Logic.{inl, inr}
+use Prim.Native.Nat.{ℕ, zero, suc, zero-le, _≤_, _<_}
+use native.Mathlib.Nat.{not-suc-le-zero, le-of-suc-le-suc, eq-or-lt-of-le}
 use lib.Dec.{T}
 use lib.Ieee.Fits.{and-l, and-r}
 
--- the test f passes at each number below n
+-- the test passes at each number below n
 abbrev pub all : (ℕ → Bool) → ℕ → Bool
 all f zero = true
 all f (suc n) = all f n && f n
@@ -17,4 +17,16 @@ all-at f zero t k h = absurd (not-suc-le-zero h)
 all-at f (suc n) t k h = elim (eq-or-lt-of-le (le-of-suc-le-suc h)) [
   | inl e ↦ subst⁻¹ (λ (m : ℕ). T (f m)) e (and-r (all f n) (f n) t)
   | inr l ↦ all-at f n (and-l (all f n) (f n) t) k l
+]
+
+-- i is none of the numbers below n, as the last arm of a `match` on 0 to n - 1 has it: so it is n or more
+abbrev pub Apart : ℕ → ℕ → Type 0
+Apart zero i = Unit {0}
+Apart (suc n) i = Apart n i × (i ≡ n → ⊥)
+
+pub past : (n i : ℕ) → Apart n i → n ≤ i
+past zero i a = zero-le
+past (suc n) i a = elim (eq-or-lt-of-le (past n i (a .0))) [
+  | inl e ↦ absurd (a .1 (sym e))
+  | inr l ↦ l
 ]

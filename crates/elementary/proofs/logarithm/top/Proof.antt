@@ -3,7 +3,7 @@ use mathlib.Core.Path.{_≡_, refl}
 use Prim.Native.Nat.{ℕ, _≤_, _<_}
 use native.Mathlib.Omega.{arith}
 use borrow.Author.Needs.{needs}
-use Rattle.floats.proofs.Arms.{apart-le}
+use Rattle.floats.proofs.Tables.{past}
 use Rattle.elementary.specs.Log2.{topOf, tops}
 use Rattle.elementary.proofs.logarithm.top.Statement.{statement}
 use Rattle.elementary.proofs.logarithm.top.Tie as tie
@@ -79,4 +79,4 @@ top-spec =
     (λ c. search needs)
     (λ c. search needs)
     (λ c. search needs)
-    (λ c. rw (last (c .before .args .i) (apart-le (c .before .args .i) 63 (c .match .rest)) (c .before .pre)) refl))
+    (λ c. rw (last (c .before .args .i) (past 63 (c .before .args .i) (c .match .rest)) (c .before .pre)) refl))
