@@ -1,0 +1,95 @@
+//! The oracle: the original Rust with our functions, and an independent reading of 01 around it.
+mod bytes;
+mod draws;
+mod engine;
+mod field;
+mod gen;
+#[cfg(linked)]
+mod linked;
+mod listing;
+mod mask;
+mod ours;
+mod runner;
+#[cfg(not(linked))]
+mod standin;
+mod state;
+mod value;
+
+/// The original with our functions.
+#[allow(dead_code, clippy::all)]
+mod original {
+    include!(concat!(env!("OUT_DIR"), "/original.rs"));
+}
+
+/// The original with nothing substituted.
+#[allow(dead_code, clippy::all)]
+mod plain {
+    include!(concat!(env!("OUT_DIR"), "/plain.rs"));
+}
+
+use std::io::{self, Read, Write};
+use std::process::ExitCode;
+
+const USAGE: &str = "\
+oracle listing [plain] < script   the listing (plain: with std's functions)
+oracle bytes < script             the last frame's 2,308 bytes; the status is the entry's answer
+oracle state [plain] < script     every field of the state by name, after every field
+oracle gen SEED KIND > script     a script
+oracle kinds                      the kinds of scripts
+";
+
+fn main() -> ExitCode {
+    let words: Vec<String> = std::env::args().skip(1).collect();
+    let words: Vec<&str> = words.iter().map(String::as_str).collect();
+    match command(&words) {
+        Ok(status) => ExitCode::from(status),
+        Err(e) => {
+            eprintln!("oracle: {e}");
+            ExitCode::from(2)
+        }
+    }
+}
+
+fn command(words: &[&str]) -> io::Result<u8> {
+    let mut out = io::BufWriter::new(io::stdout().lock());
+    match words {
+        ["listing"] => write!(out, "{}", listing::listing::<original::Engine>(&input()?))?,
+        ["listing", "plain"] => write!(out, "{}", listing::listing::<plain::Engine>(&input()?))?,
+        ["bytes"] => {
+            let mut lent = [0; bytes::SIZE];
+            let answer = bytes::last_frame::<original::Engine>(&input()?, &mut lent);
+            if answer == 0 {
+                out.write_all(&lent)?;
+            }
+            out.flush()?;
+            return Ok(answer as u8);
+        }
+        ["state"] => state::state::<original::Engine>(&input()?, &mut out)?,
+        ["state", "plain"] => state::state::<plain::Engine>(&input()?, &mut out)?,
+        ["gen", seed, name] => {
+            let (Ok(seed), Some(kind)) = (seed.parse(), gen::named(name)) else {
+                return usage();
+            };
+            out.write_all(&gen::script(seed, kind))?;
+        }
+        ["kinds"] => {
+            for kind in gen::KINDS {
+                writeln!(out, "{:12} {}", kind.name, kind.what)?;
+            }
+        }
+        _ => return usage(),
+    }
+    out.flush()?;
+    Ok(0)
+}
+
+fn usage() -> io::Result<u8> {
+    eprint!("{USAGE}");
+    Ok(2)
+}
+
+fn input() -> io::Result<Vec<u8>> {
+    let mut script = Vec::new();
+    io::stdin().lock().read_to_end(&mut script)?;
+    Ok(script)
+}
