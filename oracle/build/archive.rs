@@ -1,10 +1,20 @@
-//! Finds the archives of the port and tells the program which of them it has: `linked` for the
-//! seven functions, `entry` for the script entry, `probed` for the single layers.
+//! Finds the archives of the port and tells the program what they have, by the names that stand in
+//! them: the seven functions, the script entry, the probes.
 use std::path::{Path, PathBuf};
 use std::{env, fs};
 
+/// Archive, a name in it, the library to link, and the `cfg` that says so. The probes' archive
+/// stands before the host's, whose functions it may share.
+const FOUND: [(&str, &str, &str, &str); 5] = [
+    ("libprobe.a", "rk_probe_floor32", "probe", "probed"),
+    ("libprobe.a", "rk_probe_listing", "probe", "listed"),
+    ("libprobe.a", "rk_probe_state", "probe", "stated"),
+    ("libhost.a", "rk_log2", "host", "linked"),
+    ("libhost.a", "rk_script", "host", "entry"),
+];
+
 pub fn link(here: &Path) {
-    for name in ["linked", "entry", "probed"] {
+    for (_, _, _, name) in FOUND {
         println!("cargo:rustc-check-cfg=cfg({name})");
     }
     println!("cargo:rerun-if-env-changed=RAKNADUV_ARCHIVES");
@@ -21,11 +31,7 @@ pub fn link(here: &Path) {
         fs::read(path).is_ok_and(|b| b.windows(symbol.len()).any(|w| w == symbol.as_bytes()))
     };
     let mut found = false;
-    for (archive, symbol, library, name) in [
-        ("libprobe.a", "rk_probe_", "probe", "probed"),
-        ("libhost.a", "rk_log2", "host", "linked"),
-        ("libhost.a", "rk_script", "host", "entry"),
-    ] {
+    for (archive, symbol, library, name) in FOUND {
         if has(archive, symbol) {
             println!("cargo:rustc-cfg={name}");
             println!("cargo:rustc-link-lib=static={library}");

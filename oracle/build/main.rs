@@ -60,9 +60,21 @@ fn module_text(rust: &Path, ours: bool, mutant: Option<&Mutant>) -> String {
         &mut particles,
         &[
             edit("//! ", "// ", 2),
-            edit("use crate::MaskWorkspace;\nuse oiko_dsp::db_to_gain;\n", "", 1),
-            edit("#[cfg(test)]\nmod tests;\n\n#[cfg(test)]\nmod measurements;\n", "", 1),
-            edit("const FREE_ROOT_RATIO: f32 = 8.0;", "const FREE_ROOT_RATIO: f32 = 8.0;", 1),
+            edit(
+                "use crate::MaskWorkspace;\nuse oiko_dsp::db_to_gain;\n",
+                "",
+                1,
+            ),
+            edit(
+                "#[cfg(test)]\nmod tests;\n\n#[cfg(test)]\nmod measurements;\n",
+                "",
+                1,
+            ),
+            edit(
+                "const FREE_ROOT_RATIO: f32 = 8.0;",
+                "const FREE_ROOT_RATIO: f32 = 8.0;",
+                1,
+            ),
         ],
     );
     let prepare = cut(

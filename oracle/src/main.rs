@@ -1,14 +1,25 @@
 //! The oracle: the original Rust with our functions, and an independent reading of 01 around it.
+mod arguments;
+mod bits;
 mod bytes;
+mod calls;
+mod compare;
+mod digest;
 mod draws;
+mod elementary;
 mod engine;
 mod field;
 mod gen;
 #[cfg(linked)]
 mod linked;
 mod listing;
+mod marked;
 mod mask;
+mod masks;
 mod ours;
+mod port;
+mod probes;
+mod register;
 mod runner;
 #[cfg(not(linked))]
 mod standin;
@@ -36,6 +47,10 @@ oracle bytes < script             the last frame's 2,308 bytes; the status is th
 oracle state [plain] < script     every field of the state by name, after every field
 oracle gen SEED KIND > script     a script
 oracle kinds                      the kinds of scripts
+oracle compare N                  compares the port with the original; N scripts; status 1 on a difference
+oracle calls SEED N               N rounds of single functions of the original, arguments and answers
+oracle masks SEED N               N mask calls, bin tables and attenuations, as short numbers
+oracle digest N                   a line for each of N scripts of every kind
 ";
 
 fn main() -> ExitCode {
@@ -76,6 +91,32 @@ fn command(words: &[&str]) -> io::Result<u8> {
             for kind in gen::KINDS {
                 writeln!(out, "{:12} {}", kind.name, kind.what)?;
             }
+        }
+        ["compare", count] => {
+            let Ok(count) = count.parse() else {
+                return usage();
+            };
+            return Ok(u8::from(!compare::compare(count, &mut out)?));
+        }
+        ["calls", seed, rounds] => {
+            let (Ok(seed), Ok(rounds)) = (seed.parse(), rounds.parse()) else {
+                return usage();
+            };
+            write!(out, "{}", calls::lines(seed, rounds))?;
+        }
+        ["masks", seed, count] => {
+            let (Ok(seed), Ok(count)) = (seed.parse(), count.parse()) else {
+                return usage();
+            };
+            write!(out, "{}", masks::mask_lines(seed, count).0)?;
+            write!(out, "{}", masks::bin_lines(seed, count))?;
+            write!(out, "{}", masks::attenuation_lines(seed, count))?;
+        }
+        ["digest", seeds] => {
+            let Ok(seeds) = seeds.parse() else {
+                return usage();
+            };
+            digest::digest(seeds, &mut out)?;
         }
         _ => return usage(),
     }

@@ -29,7 +29,10 @@ pub fn pool(d: &mut Draws) -> Vec<u8> {
         }
     }
     s.seek(f64::from(d.between(0.0, 9.0))).trigger(2);
-    s.advance(9_000).frame(10.0, 0.02).trigger(2).frame(10.0, 0.1);
+    s.advance(9_000)
+        .frame(10.0, 0.02)
+        .trigger(2)
+        .frame(10.0, 0.1);
     s.0
 }
 
@@ -131,10 +134,14 @@ pub fn retirements(d: &mut Draws) -> Vec<u8> {
                 }
             }
             // The pitch of a retired particle stands; a released one still follows its slot.
-            s.release(2).source(2, hz(d), 0.5, d.flag()).source(1, hz(d), 0.5, true);
-            s.advance(d.pick(&[0, 1, fade / 2, fade - 1])).frame(3.0, 0.01);
+            s.release(2)
+                .source(2, hz(d), 0.5, d.flag())
+                .source(1, hz(d), 0.5, true);
+            s.advance(d.pick(&[0, 1, fade / 2, fade - 1]))
+                .frame(3.0, 0.01);
         }
-        s.advance(d.pick(&[0, 1, fade / 2, fade - 1, fade])).frame(3.0, 0.01);
+        s.advance(d.pick(&[0, 1, fade / 2, fade - 1, fade]))
+            .frame(3.0, 0.01);
     }
     s.0
 }
@@ -155,7 +162,10 @@ pub fn reserved(d: &mut Draws) -> Vec<u8> {
             0 => s.reserve(),
             1 => s.trigger(slot),
             2 => s.reserved(slot, d.word()),
-            3 => s.reserved(slot, d.pick(&[0, 1, u64::MAX, 1 << 63, 1 << 62, 5 | 1 << 61])),
+            3 => s.reserved(
+                slot,
+                d.pick(&[0, 1, u64::MAX, 1 << 63, 1 << 62, 5 | 1 << 61]),
+            ),
             4 => s.trigger(d.pick(&[255, 256, 257, 65_535])),
             _ => s.advance(d.among(0, 900)).frame(12.0, 0.03),
         };

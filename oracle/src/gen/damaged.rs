@@ -69,7 +69,10 @@ pub fn refused(d: &mut Draws) -> Vec<u8> {
                 c.hop_samples = d.pick(&[16_383, 16_384, 16_385, u32::MAX]);
                 s.configure(&c)
             }
-            6 => s.frame(1.0, d.pick(&[-0.0, -1e-45, f32::NAN, f32::INFINITY, f32::MAX, -1.0])),
+            6 => s.frame(
+                1.0,
+                d.pick(&[-0.0, -1e-45, f32::NAN, f32::INFINITY, f32::MAX, -1.0]),
+            ),
             _ => s.advance(d.among(0, 2_000)).frame(1.0, 0.03),
         };
     }
@@ -90,7 +93,22 @@ pub fn bad(d: &mut Draws) -> Vec<u8> {
         3 => s.field(tag, &[0; 5]),
         4 => s.field(tag, &[]),
         5 => s.field(10, &[d.pick(&[0, 1, 2, 255])]),
-        6 => s.field(3, &[d.below(2) as u8, 0, 0, 0, 0, 0, 0, 0, 0, 0, d.below(4) as u8]),
+        6 => s.field(
+            3,
+            &[
+                d.below(2) as u8,
+                0,
+                0,
+                0,
+                0,
+                0,
+                0,
+                0,
+                0,
+                0,
+                d.below(4) as u8,
+            ],
+        ),
         7 => {
             // A byte of the settings that may or may not be lawful, with a hop that is refused.
             let mut c = Script::default();

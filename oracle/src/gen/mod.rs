@@ -8,6 +8,7 @@ mod ties;
 pub mod values;
 
 use crate::draws::Draws;
+pub use ties::index_with;
 
 pub struct Kind {
     pub name: &'static str,

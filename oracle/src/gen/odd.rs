@@ -96,10 +96,14 @@ pub fn frames(d: &mut Draws) -> Vec<u8> {
     for _ in 0..40 {
         let elapsed = match d.below(4) {
             0 => odd(d),
-            1 => d.pick(&[0.0, -0.0, 1e-45, 0.05, 0.1, 1.0, f32::MAX]),
+            1 => d.pick(&[0.0, -0.0, 1e-45, 3e-8, 0.05, 1.0, f32::MAX]),
             _ => d.between(0.0, 0.2),
         };
-        let bin_hz = if d.flag() { odd(d) } else { d.between(0.0, 400.0) };
+        let bin_hz = if d.flag() {
+            odd(d)
+        } else {
+            d.between(0.0, 400.0)
+        };
         s.advance(d.among(0, 1_000)).frame(bin_hz, elapsed);
         if d.once_in(5) {
             c.enabled = !c.enabled;

@@ -17,7 +17,7 @@ fn draw(index: u64, stream: u64) -> u64 {
 }
 
 /// An index whose draw in `stream` is exactly `top` / 2^24.
-fn index_with(d: &mut Draws, stream: u64, top: u64) -> u64 {
+pub fn index_with(d: &mut Draws, stream: u64, top: u64) -> u64 {
     let key = unmixed(top << 40 | d.word() >> 24);
     (key ^ SEED ^ stream.wrapping_mul(BY_STREAM)).wrapping_mul(inverse(BY_INDEX))
 }
@@ -89,14 +89,18 @@ pub fn ratio_ties(d: &mut Draws) -> Vec<u8> {
             trigger_with(&mut s, d, 0, 12, top);
         }
         // An octave or more up: harmonics that were chosen now stand on the limit or above it.
-        s.source(0, power(d), 1.0, true).advance(25).frame(0.0, 0.02);
+        s.source(0, power(d), 1.0, true)
+            .advance(25)
+            .frame(0.0, 0.02);
     }
     c.shape = 1;
     c.scheduled = true;
     c.rate_hz = 32.0;
     c.partial_rolloff_db = 3.0;
     s.configure(&c).source(1, rate * 0.5, 1.0, true).retire(0);
-    s.advance(4_000).frame(0.0, 0.02).source(1, rate * 0.25, 1.0, true);
+    s.advance(4_000)
+        .frame(0.0, 0.02)
+        .source(1, rate * 0.25, 1.0, true);
     s.frame(0.0, 0.02);
     s.0
 }
@@ -117,7 +121,11 @@ pub fn age_ties(d: &mut Draws) -> Vec<u8> {
         release_ms: stage,
         ..settings()
     };
-    let life = if cloud { 32_000 } else { (stage * 8.192) as u32 * 2 };
+    let life = if cloud {
+        32_000
+    } else {
+        (stage * 8.192) as u32 * 2
+    };
     let mut s = Script::at(rate);
     s.configure(&c).source(0, hz(d), 1.0, true);
     if cloud {
@@ -127,7 +135,10 @@ pub fn age_ties(d: &mut Draws) -> Vec<u8> {
     } else {
         s.trigger(0);
     }
-    s.advance(life / 2 - 1).frame(1.0, 0.02).advance(1).frame(1.0, 0.02);
+    s.advance(life / 2 - 1)
+        .frame(1.0, 0.02)
+        .advance(1)
+        .frame(1.0, 0.02);
     s.advance(life / 2 - 3).frame(1.0, 0.02);
     for _ in 0..4 {
         s.advance(1).frame(1.0, 0.02);
@@ -201,19 +212,48 @@ pub fn seek_ties(d: &mut Draws) -> Vec<u8> {
         let sprinkle = 0.25 * d.below(4_000) as f64;
         let at = if c.shape == 1 { cloud } else { sprinkle };
         let beside = f64::from_bits(at.to_bits().wrapping_add(d.below(3)).wrapping_sub(1));
-        s.seek(beside).advance(d.pick(&[0, 1, 2, 900])).frame(1.0, 0.01);
+        s.seek(beside)
+            .advance(d.pick(&[0, 1, 2, 900]))
+            .frame(1.0, 0.01);
+        if d.once_in(3) {
+            offset_tie(&mut s, d, &mut c);
+        }
     }
     s.0
+}
+
+/// At sample 0 `configure` sets the offset and moves no opportunity: seek short of one by exactly
+/// that offset and the next sample stands on it.
+fn offset_tie(s: &mut Script, d: &mut Draws, c: &mut Settings) {
+    let timing = 0.5 + 0.7 * (f64::from(draw(0, 0) as f32 / ONE as f32) - 0.5);
+    let offset = d.pick(&[0.125_f32, 0.0625, 0.25]);
+    c.shape = 1;
+    c.phase = 0.0;
+    s.reset().configure(c).seek(timing - f64::from(offset));
+    c.phase = offset;
+    s.configure(c)
+        .advance(1)
+        .frame(1.0, 0.01)
+        .advance(1)
+        .frame(1.0, 0.01);
 }
 
 /// The groups below 10^9 cycles whose count is decided by a draw of exactly 0.25 (the first row)
 /// or 0.75, with each of the three lanes among them.
 const COUNT_TIES: [[u32; 8]; 2] = [
     [
-        11_278_650, 22_538_831, 32_690_331, 38_387_286, 95_539_248, 109_777_044, 124_177_724, 44_592_635,
+        11_278_650,
+        22_538_831,
+        32_690_331,
+        38_387_286,
+        95_539_248,
+        109_777_044,
+        124_177_724,
+        44_592_635,
     ],
     [
-        3_840_278, 10_082_616, 12_187_923, 14_790_032, 16_284_208, 20_064_663, 3_840_278, 10_082_616,
+        3_840_278, 10_082_616, 12_187_923, 14_790_032, 16_284_208, 20_064_663, 3_840_278,
+        10_082_616,
     ],
 ];
 
