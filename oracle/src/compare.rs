@@ -2,6 +2,7 @@
 //! cases there were and how many differ.
 use crate::arguments::Arguments;
 use crate::bytes::{last_frame, SIZE};
+use crate::draws::Draws;
 use crate::engine::Particles;
 use crate::field::read;
 use crate::gen::{script, KINDS};
@@ -9,11 +10,15 @@ use crate::listing::listing;
 use crate::original::Engine;
 use crate::probes::{Probe, PROBED, PROBES};
 use crate::runner::run;
+use crate::value::Value;
 use crate::{elementary, marked, masks, ours, plain, port};
 use std::io::{self, Write};
 
 /// A part that differs shows this many of its cases.
 const SHOWN: usize = 3;
+
+/// So many scripts also run with std's functions, to show what the substitution changes.
+const PLAIN: u64 = 300;
 
 struct Sum<'a, W: Write> {
     out: &'a mut W,
@@ -117,13 +122,16 @@ fn scripts<W: Write>(
         let seed = n / KINDS.len() as u64;
         let bytes = script(seed, kind);
         let name = format!("gen {seed} {}", kind.name);
-        parts[0].add(&name, entry_same(&bytes));
         let ours = listing::<Engine>(&bytes);
-        same_plain += u64::from(listing::<plain::Engine>(&bytes) == ours);
         let theirs = port::listing(&bytes, ours.len() + 100);
         parts[1].add(&name, theirs.map(|text| text == ours.as_bytes()));
-        // A prefix of the script shows the state in its middle too.
-        for end in [bytes.len(), middle(&bytes)] {
+        if n < PLAIN {
+            same_plain += u64::from(listing::<plain::Engine>(&bytes) == ours);
+        }
+        // Shorter scripts show the frames and the state in its middle.
+        for end in ends(&bytes, n) {
+            let name = format!("{name}, first {end} bytes");
+            parts[0].add(&name, entry_same(&bytes[..end]));
             parts[2].add(&name, state_same(&bytes[..end]));
         }
     }
@@ -136,7 +144,8 @@ fn scripts<W: Write>(
     }
     writeln!(
         sum.out,
-        "for information: {same_plain} of {count} listings are the same with std's functions"
+        "for information: {same_plain} of the first {} listings are the same with std's functions",
+        count.min(PLAIN)
     )
 }
 
@@ -181,23 +190,24 @@ fn entry_same(script: &[u8]) -> Option<bool> {
 
 /// The state after a script that is read to its end.
 fn state_same(script: &[u8]) -> Option<bool> {
+    if !port::STATED {
+        return None;
+    }
+    let ended = run::<Engine>(script, |_, _, _| {}).ok()?;
     let mut want = Vec::new();
-    let ended = run(script, |_, _, engine: &Engine| {
-        want.clear();
-        engine.visit(&mut |_, _, _, value| want.extend(value.code().to_be_bytes()));
-    });
-    ended.ok()?;
+    let mut see = |_, _, _, value: Value| want.extend(value.code().to_be_bytes());
+    ended.engine.visit(&mut see);
     Some(port::state(script, want.len())? == want)
 }
 
-/// The end of a field near the middle of a script.
-fn middle(script: &[u8]) -> usize {
+/// The end of the script and the ends of two fields in it.
+fn ends(script: &[u8], n: u64) -> [usize; 3] {
+    let mut ends = vec![script.len()];
     let mut rest = script;
     while let Ok((_, next)) = read(rest, rest.len() == script.len()) {
         rest = next;
-        if rest.len() * 2 <= script.len() {
-            break;
-        }
+        ends.push(script.len() - rest.len());
     }
-    script.len() - rest.len()
+    let mut d = Draws::new(n, "ends");
+    [script.len(), d.pick(&ends), d.pick(&ends)]
 }

@@ -1,10 +1,10 @@
 //! Short numbers for long answers: what `oracle digest` prints and mutants are judged by.
-use crate::bytes::{last_frame, SIZE};
+use crate::bytes::{encode, last_frame, SIZE};
 use crate::draws::mixed;
 use crate::engine::Particles;
 use crate::gen::{script, KINDS};
 use crate::original::Engine;
-use crate::runner::run;
+use crate::runner::{run, Answer};
 use crate::{calls, listing, masks};
 use std::io::{self, Write};
 
@@ -22,15 +22,18 @@ impl Digest {
     }
 }
 
-/// The whole state after every field of a script, as one number.
+/// The whole state after every field of a script, and every frame, as one number.
 pub fn state_digest<E: Particles>(script: &[u8]) -> u64 {
     let mut digest = Digest::default();
-    let ended = run(script, |field, _, engine: &E| {
+    let ended = run(script, |field, answer, engine: &E| {
         digest.word(field as u64);
         engine.visit(&mut |_, _, _, value| digest.word(value.code()));
+        if let Answer::Framed(frame) = answer {
+            digest.word(Digest::text(&encode(frame)));
+        }
     });
     digest.word(match ended {
-        Ok(count) => count as u64,
+        Ok(ended) => ended.count as u64,
         Err(bad) => u64::from(bad.number) << 32,
     });
     digest.0

@@ -1,7 +1,7 @@
 //! 01's listing: one line for each accepted frame and each refusal, then `end` or `bad`.
 use crate::engine::Particles;
 use crate::field::{read, Field};
-use crate::runner::{run, Answer, Bad};
+use crate::runner::{run, Answer, Bad, Ended};
 use crate::value::bits32;
 use std::fmt::Write;
 
@@ -26,7 +26,7 @@ pub fn listing<E: Particles>(script: &[u8]) -> String {
         _ => {}
     });
     match ended {
-        Ok(count) => writeln!(text, "end {count}").unwrap(),
+        Ok(Ended { count, .. }) => writeln!(text, "end {count}").unwrap(),
         Err(Bad { field, number }) => writeln!(text, "field {field} bad {number}").unwrap(),
     }
     text

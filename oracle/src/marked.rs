@@ -5,6 +5,8 @@ use crate::field::Settings;
 use crate::gen::script::Script;
 use crate::gen::values::settings;
 use crate::original::{open, Engine};
+use crate::runner::run;
+use crate::value::Value;
 use crate::{listing, ours};
 
 const SAMPLE: [u8; 23] = [
@@ -75,20 +77,20 @@ pub fn marked() -> Vec<(&'static str, bool)> {
     ]
 }
 
-/// One value of the state after a script.
+/// One float of the state after a script.
 fn state_after(script: &Script, wanted: &str) -> f64 {
     let mut found = f64::NAN;
-    let _ = crate::runner::run(&script.0, |_, _, engine: &Engine| {
-        engine.visit(&mut |name, _, _, value| {
+    if let Ok(ended) = run::<Engine>(&script.0, |_, _, _| {}) {
+        ended.engine.visit(&mut |name, _, _, value| {
             if name == wanted {
                 found = match value {
-                    crate::value::Value::Single(x) => x.into(),
-                    crate::value::Value::Double(x) => x,
+                    Value::Single(x) => x.into(),
+                    Value::Double(x) => x,
                     _ => f64::NAN,
                 };
             }
         });
-    });
+    }
     found
 }
 

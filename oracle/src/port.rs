@@ -15,6 +15,9 @@ extern "C" {
     fn rk_probe_state(script: *const u8, length: usize, out: *mut u8, room: usize) -> usize;
 }
 
+/// Whether the state can be had.
+pub const STATED: bool = cfg!(stated);
+
 /// 01's entry: its answer and the lent bytes after it.
 #[cfg(entry)]
 pub fn last_frame(script: &[u8], out: &mut [u8]) -> Option<u32> {

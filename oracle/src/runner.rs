@@ -28,11 +28,17 @@ pub fn rate_passes(rate: f32) -> bool {
     (8_000.0..=384_000.0).contains(&rate)
 }
 
-/// Runs a script, shows every field's number, answer and engine, and counts the fields.
+/// A script that was read to its end: how many fields it has, and the engine it leaves.
+pub struct Ended<E> {
+    pub count: usize,
+    pub engine: E,
+}
+
+/// Runs a script and shows every field's number, answer and engine.
 pub fn run<E: Particles>(
     script: &[u8],
     mut see: impl FnMut(usize, &Answer, &E),
-) -> Result<usize, Bad> {
+) -> Result<Ended<E>, Bad> {
     let bad = |field, number| Bad { field, number };
     if script.len() > SCRIPT_LIMIT {
         return Err(bad(0, LENGTH));
@@ -54,7 +60,7 @@ pub fn run<E: Particles>(
         let answer = call(&mut engine, field);
         see(count, &answer, &engine);
     }
-    Ok(count)
+    Ok(Ended { count, engine })
 }
 
 /// One call on the engine, refused where 01 says so.

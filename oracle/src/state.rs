@@ -1,7 +1,7 @@
 //! The whole state by name, after every field of a script. A name that isn't printed again has
 //! the value that was printed last.
 use crate::engine::Particles;
-use crate::runner::{run, Answer, Bad};
+use crate::runner::{run, Answer, Bad, Ended};
 use crate::value::Value;
 use std::io::{self, Write};
 
@@ -16,7 +16,7 @@ pub fn state<E: Particles>(script: &[u8], out: &mut impl Write) -> io::Result<()
     });
     trouble?;
     match ended {
-        Ok(count) => writeln!(out, "end {count}"),
+        Ok(Ended { count, .. }) => writeln!(out, "end {count}"),
         Err(Bad { field, number }) => writeln!(out, "field {field} bad {number}"),
     }
 }

@@ -93,6 +93,10 @@ pub fn frames(d: &mut Draws) -> Vec<u8> {
         ..settings()
     };
     s.configure(&c);
+    if d.flag() {
+        // So short that activity stays faint, though enabled.
+        s.frame(1.0, 3e-8);
+    }
     for _ in 0..40 {
         let elapsed = match d.below(4) {
             0 => odd(d),
