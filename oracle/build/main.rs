@@ -14,6 +14,8 @@ const PARTICLES: &str = "plugins/weft/crates/spectral-dsp/src/particles.rs";
 const SPECTRAL: &str = "plugins/weft/crates/spectral-dsp/src/lib.rs";
 const OIKO: &str = "crates/oiko-dsp/src/lib.rs";
 
+const APPENDED: [&str; 4] = ["workspace.rs", "engine.rs", "snapshot.rs", "open.rs"];
+
 /// What goes to our functions: the old text, the new one, and how often it stands in
 /// `particles.rs`, in the bin table and in `db_to_gain`.
 const OURS: [(&str, &str, [usize; 3]); 9] = [
@@ -38,7 +40,10 @@ fn main() {
     println!("cargo:rerun-if-env-changed=RAKNADUV_RUST");
     let rust = env::var("RAKNADUV_RUST").map_or(here.join("../../shared/docs/src"), PathBuf::from);
     let mutant = mutant::named(&read(&here.join("mutants.list")));
-    let tail = read(&here.join("appended/workspace.rs")) + &read(&here.join("appended/visible.rs"));
+    let tail: String = APPENDED
+        .iter()
+        .map(|file| read(&here.join("appended").join(file)))
+        .collect();
     for (module, ours, mutant) in [("original", true, mutant), ("plain", false, None)] {
         let text = module_text(&rust, ours, mutant.as_ref()) + &tail;
         fs::write(out.join(module).with_extension("rs"), text).unwrap();

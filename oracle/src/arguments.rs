@@ -1,7 +1,7 @@
-//! A probe's arguments: every combination of edges first, then random bits with an edge at times.
+//! Arguments without end: every combination of edges first, then random bits with an edge at times.
 use crate::draws::Draws;
 
-/// At least this many for each probe.
+/// So many of them are compared for each function.
 pub const ARGUMENTS: u64 = 1_000_000;
 
 pub struct Arguments {
@@ -13,7 +13,7 @@ pub struct Arguments {
 
 impl Arguments {
     pub fn new(name: &str, edges: Vec<Vec<u64>>) -> Self {
-        // Where all combinations would be more than the whole list, the edges are drawn instead.
+        // Where the combinations alone would be more than are compared, edges are drawn instead.
         let all = edges.iter().map(|e| e.len() as u64).product();
         Arguments {
             edges,
@@ -28,9 +28,6 @@ impl Iterator for Arguments {
     type Item = Vec<u64>;
 
     fn next(&mut self) -> Option<Vec<u64>> {
-        if self.at == ARGUMENTS {
-            return None;
-        }
         let mut place = self.at;
         let listed = self.at < self.combinations;
         self.at += 1;

@@ -1,6 +1,6 @@
 //! The comparison: every case that can be compared today, one line a part, and at the end how many
 //! cases there were and how many differ.
-use crate::arguments::Arguments;
+use crate::arguments::{Arguments, ARGUMENTS};
 use crate::bytes::{last_frame, SIZE};
 use crate::draws::Draws;
 use crate::engine::Particles;
@@ -62,16 +62,15 @@ pub fn compare(count: u64, out: &mut impl Write) -> io::Result<bool> {
 
     let mut absent = Vec::new();
     if ours::LINKED {
-        for (name, cases, failed) in elementary::checks() {
-            sum.part(&name, cases, &failed)?;
+        for check in elementary::checks() {
+            sum.part(&check.name, check.cases, &check.failed)?;
         }
     } else {
         absent.push("the elementary functions (stand-ins ran in their place: no libhost.a)");
     }
     if PROBED {
         for probe in PROBES {
-            let (cases, differing) = probed(probe);
-            sum.part(&format!("probe {}", probe.name), cases, &differing)?;
+            sum.part(&format!("probe {}", probe.name), ARGUMENTS, &probed(probe))?;
         }
     } else {
         absent.push("the float helpers (no libprobe.a)");
@@ -84,19 +83,17 @@ pub fn compare(count: u64, out: &mut impl Write) -> io::Result<bool> {
     Ok(sum.differ == 0)
 }
 
-fn probed(probe: &Probe) -> (u64, Vec<String>) {
-    let mut cases = 0;
-    let mut differing = Vec::new();
-    for words in Arguments::new(probe.name, (probe.edges)()) {
-        if let Some(want) = (probe.rust)(&words) {
-            cases += 1;
-            let got = (probe.port)(&words);
-            if got != want {
-                differing.push(format!("{words:x?}: Rust {want:x}, port {got:x}"));
-            }
-        }
-    }
-    (cases, differing)
+fn probed(probe: &Probe) -> Vec<String> {
+    let arguments = Arguments::new(probe.name, (probe.edges)());
+    let compared = arguments.filter_map(|words| Some(((probe.rust)(&words)?, words)));
+    let differs = |(want, words): (u64, Vec<u64>)| {
+        let got = (probe.port)(&words);
+        (got != want).then(|| format!("{words:x?}: Rust {want:x}, port {got:x}"))
+    };
+    compared
+        .take(ARGUMENTS as usize)
+        .filter_map(differs)
+        .collect()
 }
 
 /// Scripts of every kind in turn: entry, listing and state, each where the port has it.

@@ -81,6 +81,5 @@ probes! {
     rem_euclid32 rk_probe_rem_euclid32(x: f32, m: f32) -> f32 => x.rem_euclid(m);
     rem_euclid64 rk_probe_rem_euclid64(x: f64, m: f64) -> f64 => x.rem_euclid(m);
     wrapping_mul rk_probe_wrapping_mul(a: u64, b: u64) -> u64 => a.wrapping_mul(b);
-    rotate_left rk_probe_rotate_left(x: u64, n: u32) -> u64, if n < 64 => x.rotate_left(n);
-    sqrt rk_probe_sqrt(x: f32) -> f32 => x.sqrt();
+    rotate_left rk_probe_rotate_left(x: u64, n: u32) -> u64 => x.rotate_left(n);
 }
