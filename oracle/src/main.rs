@@ -21,6 +21,7 @@ mod port;
 mod probes;
 mod register;
 mod runner;
+mod scripts;
 #[cfg(not(linked))]
 mod standin;
 mod state;

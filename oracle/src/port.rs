@@ -15,7 +15,9 @@ extern "C" {
     fn rk_probe_state(script: *const u8, length: usize, out: *mut u8, room: usize) -> usize;
 }
 
-/// Whether the state can be had.
+/// Which of these the archives have.
+pub const ENTRY: bool = cfg!(entry);
+pub const LISTED: bool = cfg!(listed);
 pub const STATED: bool = cfg!(stated);
 
 /// 01's entry: its answer and the lent bytes after it.
