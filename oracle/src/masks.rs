@@ -22,7 +22,7 @@ pub fn case(d: &mut Draws) -> Case {
     let length = |d: &mut Draws| logs.len() + usize::from(d.once_in(12));
     let (scratch, output) = (length(d), length(d));
     Case {
-        frame: frame(d),
+        frame: frame(d, &logs),
         depth_db: match d.below(3) {
             0 => odd(d),
             _ => d.between(-2.0, 70.0),
@@ -33,7 +33,7 @@ pub fn case(d: &mut Draws) -> Case {
     }
 }
 
-fn frame(d: &mut Draws) -> Frame {
+fn frame(d: &mut Draws, logs: &[f32]) -> Frame {
     let mut frame = Frame::empty();
     frame.activity = match d.below(4) {
         0 => odd(d),
@@ -41,13 +41,16 @@ fn frame(d: &mut Draws) -> Frame {
     };
     let odd_ones = d.once_in(2);
     for _ in 0..d.among(0, 40) {
-        let place = d.below(192) as usize;
-        let window = [
-            d.between(3.0, 15.0),
-            d.between(0.05, 4.0),
-            d.between(0.0, 1.0),
-        ];
-        frame.windows[place] = window.map(|x| if odd_ones && d.once_in(4) { odd(d) } else { x });
+        let radius = d.between(0.05, 4.0);
+        // A window may begin or end, as rounded, exactly at a bin.
+        let centre = match d.below(4) {
+            0 if !logs.is_empty() => d.pick(logs) - radius,
+            1 if !logs.is_empty() => d.pick(logs) + radius,
+            _ => d.between(3.0, 15.0),
+        };
+        let window = [centre, radius, d.between(0.0, 1.0)];
+        frame.windows[d.below(192) as usize] =
+            window.map(|x| if odd_ones && d.once_in(4) { odd(d) } else { x });
     }
     frame
 }

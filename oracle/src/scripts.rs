@@ -59,7 +59,7 @@ pub fn compare<W: Write>(count: u64, sum: &mut Sum<W>) -> io::Result<()> {
             listed.add(&name, theirs.map(|text| text == ours.as_bytes()));
             same_plain += u64::from(n < PLAIN && listing::<plain::Engine>(&bytes) == ours);
         }
-        // Shorter scripts show the frames and the state in the middle.
+        // A shorter script shows a frame and the state in the middle.
         for end in ends(&bytes, n) {
             let name = format!("{name}, first {end} bytes");
             entry.add(&name, entry_same(&bytes[..end]));
@@ -99,14 +99,13 @@ fn state_same(script: &[u8]) -> Option<bool> {
     Some(port::state(script, want.len())? == want)
 }
 
-/// The end of the script and the ends of two fields in it.
-fn ends(script: &[u8], n: u64) -> [usize; 3] {
+/// The end of the script and the end of some field in it.
+fn ends(script: &[u8], n: u64) -> [usize; 2] {
     let mut ends = vec![script.len()];
     let mut rest = script;
     while let Ok((_, next)) = read(rest, rest.len() == script.len()) {
         rest = next;
         ends.push(script.len() - rest.len());
     }
-    let mut d = Draws::new(n, "ends");
-    [script.len(), d.pick(&ends), d.pick(&ends)]
+    [script.len(), Draws::new(n, "ends").pick(&ends)]
 }

@@ -84,7 +84,7 @@ pub fn all_sources(d: &mut Draws) -> Vec<u8> {
         ..usual(d)
     });
     for _ in 0..12 {
-        s.advance(d.among(500, 6_000)).frame(5.0, 0.05);
+        s.advance(d.among(300, 3_000)).frame(5.0, 0.05);
         for _ in 0..24 {
             let slot = d.below(257) as u16;
             match d.below(3) {

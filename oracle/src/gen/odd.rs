@@ -41,7 +41,7 @@ pub fn seeks(d: &mut Draws) -> Vec<u8> {
             c.enabled = true;
             s.configure(&c).trigger(0);
         }
-        s.seek(odd_cycles(d)).advance(d.among(0, 4_000));
+        s.seek(odd_cycles(d)).advance(d.among(0, 2_000));
         s.frame(8.0, 0.04);
     }
     s.0
@@ -54,7 +54,7 @@ pub fn settings_mended(d: &mut Draws) -> Vec<u8> {
     for turn in 0..16 {
         s.configure(&odd_settings(d));
         if turn > 2 {
-            s.trigger(0).advance(d.among(0, 6_000)).frame(8.0, 0.04);
+            s.trigger(0).advance(d.among(0, 3_000)).frame(8.0, 0.04);
         }
     }
     s.0
@@ -77,7 +77,7 @@ pub fn odd_sources(d: &mut Draws) -> Vec<u8> {
             s.source(slot, -pitch, strength, true);
             s.source(slot, pitch, strength, d.flag());
         }
-        s.trigger(slot).advance(d.among(0, 1_500));
+        s.trigger(slot).advance(d.among(0, 800));
         s.frame(4.0, 0.02);
     }
     s.0
@@ -131,7 +131,7 @@ pub fn rates(d: &mut Draws) -> Vec<u8> {
     c.rate_hz = 32.0;
     s.configure(&c);
     for _ in 0..8 {
-        s.advance(d.among(1, 20_000)).frame(rate / 4_096.0, 0.05);
+        s.advance(d.among(1, 8_000)).frame(rate / 4_096.0, 0.05);
     }
     s.0
 }

@@ -10,7 +10,7 @@ const SHOW: (f32, f32) = (23.4375, 0.0427);
 fn play(s: &mut Script, d: &mut Draws, total: u32) {
     let mut left = total;
     while left > 0 {
-        let step = d.among(1, 4_096).min(left);
+        let step = d.among(1, 2_048).min(left);
         s.advance(step);
         left -= step;
         if !d.once_in(5) {
@@ -33,14 +33,14 @@ fn shaped(d: &mut Draws, shape: u8) -> Script {
 /// Sprinkle with no notes at all.
 pub fn sprinkle(d: &mut Draws) -> Vec<u8> {
     let mut s = shaped(d, 0);
-    play(&mut s, d, 90_000);
+    play(&mut s, d, 40_000);
     s.0
 }
 
 /// Cloud with no notes at all.
 pub fn cloud(d: &mut Draws) -> Vec<u8> {
     let mut s = shaped(d, 1);
-    play(&mut s, d, 90_000);
+    play(&mut s, d, 40_000);
     s.0
 }
 
@@ -58,7 +58,7 @@ pub fn notes(d: &mut Draws) -> Vec<u8> {
             3 => s.trigger(slot),
             _ => s.source(slot, hz(d), d.between(0.0, 1.2), !d.once_in(4)),
         };
-        play(&mut s, d, 3_000);
+        play(&mut s, d, 1_500);
     }
     s.0
 }
@@ -71,7 +71,7 @@ pub fn switches(d: &mut Draws) -> Vec<u8> {
     }
     for _ in 0..20 {
         s.configure(&usual(d));
-        play(&mut s, d, 4_000);
+        play(&mut s, d, 2_000);
     }
     s.0
 }
@@ -97,7 +97,7 @@ pub fn one_switch(d: &mut Draws) -> Vec<u8> {
             _ => c.rate_hz = d.between(1.0, 32.0),
         }
         s.configure(&c);
-        play(&mut s, d, 2_500);
+        play(&mut s, d, 1_200);
     }
     s.0
 }
@@ -117,7 +117,7 @@ pub fn unscheduled(d: &mut Draws) -> Vec<u8> {
             0 => s.source(slot, hz(d), 0.7, true),
             _ => s.trigger(slot),
         };
-        play(&mut s, d, 1_500);
+        play(&mut s, d, 800);
     }
     s.0
 }
@@ -128,7 +128,7 @@ pub fn resets(d: &mut Draws) -> Vec<u8> {
     for _ in 0..4 {
         s.configure(&usual(d)).source(7, hz(d), 1.0, true);
         s.note_input(d.flag()).trigger(7).reserve();
-        play(&mut s, d, 9_000);
+        play(&mut s, d, 5_000);
         s.reset();
         if d.flag() {
             s.frame(SHOW.0, SHOW.1);
@@ -145,7 +145,7 @@ pub fn long(d: &mut Draws) -> Vec<u8> {
     c.enabled = true;
     s.configure(&c).source(1, hz(d), 0.5, true);
     for _ in 0..3 {
-        s.advance(60_000).frame(SHOW.0, SHOW.1);
+        s.advance(20_000).frame(SHOW.0, SHOW.1);
         s.advance(1).advance(0).advance(2).frame(SHOW.0, 0.0);
     }
     s.0

@@ -217,6 +217,8 @@ pub fn seek_ties(d: &mut Draws) -> Vec<u8> {
             .frame(1.0, 0.01);
         if d.once_in(3) {
             offset_tie(&mut s, d, &mut c);
+            offset_jump(&mut s, d, &mut c);
+            offset_jump(&mut s, d, &mut c);
         }
     }
     s.0
@@ -231,6 +233,23 @@ fn offset_tie(s: &mut Script, d: &mut Draws, c: &mut Settings) {
     c.phase = 0.0;
     s.reset().configure(c).seek(timing - f64::from(offset));
     c.phase = offset;
+    s.configure(c)
+        .advance(1)
+        .frame(1.0, 0.01)
+        .advance(1)
+        .frame(1.0, 0.01);
+}
+
+/// In the same way the offset can jump over the starts that are left in a group, which are no
+/// backlog: only the first of them is delivered.
+fn offset_jump(s: &mut Script, d: &mut Draws, c: &mut Settings) {
+    let group = d.below(1_000) as f64 * 3.0;
+    c.shape = 0;
+    c.phase = 0.0;
+    s.reset()
+        .configure(c)
+        .seek(group + f64::from(d.between(1.8, 2.3)));
+    c.phase = d.between(0.75, 0.99);
     s.configure(c)
         .advance(1)
         .frame(1.0, 0.01)

@@ -44,11 +44,13 @@ pub const RATES: [f32; 12] = [
     96_000.0, 192_000.0, 384_000.0,
 ];
 
+/// A lawful rate, mostly a low one: there a second has fewer samples and more happens in each.
 pub fn rate(d: &mut Draws) -> f32 {
-    match d.below(4) {
+    match d.below(8) {
         0 => d.between(8_000.0, 60_000.0),
         1 => d.pick(&[48_000.0 / 1.001, 44_100.5, 8_000.001, 383_999.97]),
-        _ => d.pick(&RATES),
+        2 => d.pick(&RATES),
+        _ => d.pick(&RATES[..4]),
     }
 }
 
