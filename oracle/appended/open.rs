@@ -1,0 +1,100 @@
+/// The private functions, and the public ones on plain numbers.
+pub mod open {
+    use super::*;
+
+    pub fn window([center_log2_hz, radius_octaves, amplitude]: [f32; 3]) -> Window {
+        Window {
+            center_log2_hz,
+            radius_octaves,
+            amplitude,
+        }
+    }
+    pub fn openness(window: [f32; 3], log2_hz: f32) -> f32 {
+        open::window(window).openness(log2_hz)
+    }
+    pub fn attenuation_db(frame: &crate::engine::Frame, frequency_hz: f32, depth_db: f32) -> f32 {
+        Frame::from(frame).attenuation_db(frequency_hz, depth_db)
+    }
+    pub fn mix(x: u64) -> u64 {
+        super::mix(x)
+    }
+    pub fn random(index: u64, stream: u64) -> f32 {
+        super::random(index, stream)
+    }
+    pub fn sprinkle_key(lane: usize, index: u64) -> u64 {
+        super::sprinkle_key(lane, index)
+    }
+    pub fn taper(x: f32) -> f32 {
+        super::taper(x)
+    }
+    pub fn db_to_gain(db: f32) -> f32 {
+        super::db_to_gain(db)
+    }
+    pub fn register_height(log_hz: f32) -> f32 {
+        super::register_height(log_hz)
+    }
+    pub fn register_strength(log_hz: f32) -> f32 {
+        super::register_strength(log_hz)
+    }
+    pub fn register_probability(log_hz: f32) -> f32 {
+        super::register_probability(log_hz)
+    }
+    pub fn free_cloud_frequency(index: u64, max_hz: f32) -> f32 {
+        super::free_cloud_frequency(index, max_hz)
+    }
+    pub fn sprinkle_register(index: u64, root_hz: f32, max_hz: f32, direction: u8) -> (f32, f32) {
+        super::sprinkle_register(index, root_hz, max_hz, super::direction(direction))
+    }
+    pub fn select_partials(
+        index: u64,
+        weights: [f32; 24],
+        limit: usize,
+        max_ratio: f32,
+    ) -> [u8; 3] {
+        super::select_partials(index, weights, limit, max_ratio)
+    }
+    /// Index, next start and whether it emits, of a lane's stream set to `index` and prepared.
+    pub fn prepared_stream(lane: usize, index: u64, sync: bool) -> (f64, bool) {
+        let mut stream = SprinkleStream::new(lane, sync);
+        stream.index = index;
+        stream.prepare(lane, sync);
+        (stream.next, stream.emit)
+    }
+    /// The envelope of settings as `configure` mends them.
+    pub fn envelope(settings: &crate::field::Settings, index: u64, sample_rate: f32) -> (f32, f32) {
+        let mut engine = Engine::new(sample_rate);
+        engine.configure(settings.into());
+        engine.config.envelope(index, sample_rate)
+    }
+    pub fn timing_reference(opportunity: u64) -> f64 {
+        let mut engine = Engine::new(48_000.0);
+        engine.opportunity = opportunity;
+        engine.timing_reference()
+    }
+    pub fn bin_table(sample_rate: f32, fft_size: usize) -> Vec<f32> {
+        let mut workspace = MaskWorkspace {
+            bin_log2_hz: Vec::new(),
+            sample_rate: 0.0,
+            fft_size: 0,
+        };
+        workspace.prepare(sample_rate, fft_size);
+        workspace.bin_log2_hz
+    }
+    pub fn gains(
+        frame: &crate::engine::Frame,
+        depth_db: f32,
+        logs: &[f32],
+        scratch: &mut [f32],
+        output: &mut [f32],
+    ) {
+        let workspace = MaskWorkspace {
+            bin_log2_hz: logs.to_vec(),
+            sample_rate: 0.0,
+            fft_size: 0,
+        };
+        let mut mask = Mask::new(logs.len());
+        mask.openness.copy_from_slice(scratch);
+        mask.gains(&frame.into(), depth_db, &workspace, output);
+        scratch.copy_from_slice(&mask.openness);
+    }
+}

@@ -1,0 +1,44 @@
+//! Finds the archives of the port and tells the program what they have, by the names that stand in
+//! them: the seven functions, the script entry, the probes.
+use std::path::{Path, PathBuf};
+use std::{env, fs};
+
+/// Archive, a name in it, the library to link, and the `cfg` that says so. The probes' archive
+/// stands before the host's, whose functions it may share.
+const FOUND: [(&str, &str, &str, &str); 5] = [
+    ("libprobe.a", "rk_probe_floor32", "probe", "probed"),
+    ("libprobe.a", "rk_probe_listing", "probe", "listed"),
+    ("libprobe.a", "rk_probe_state", "probe", "stated"),
+    ("libhost.a", "rk_log2", "host", "linked"),
+    ("libhost.a", "rk_script", "host", "entry"),
+];
+
+pub fn link(here: &Path) {
+    for (_, _, _, name) in FOUND {
+        println!("cargo:rustc-check-cfg=cfg({name})");
+    }
+    println!("cargo:rerun-if-env-changed=RAKNADUV_ARCHIVES");
+    let named = env::var("RAKNADUV_ARCHIVES").map(PathBuf::from).ok();
+    // `rt staticlib` writes x86-64 alone; a folder that the environment names is taken at its word.
+    if named.is_none() && env::var("CARGO_CFG_TARGET_ARCH").as_deref() != Ok("x86_64") {
+        return;
+    }
+    let folder = named.unwrap_or_else(|| here.join("../target/staticlib"));
+    println!("cargo:rustc-link-search=native={}", folder.display());
+    let has = |archive: &str, symbol: &str| {
+        let path = folder.join(archive);
+        println!("cargo:rerun-if-changed={}", path.display());
+        fs::read(path).is_ok_and(|b| b.windows(symbol.len()).any(|w| w == symbol.as_bytes()))
+    };
+    let mut found = false;
+    for (archive, symbol, library, name) in FOUND {
+        if has(archive, symbol) {
+            println!("cargo:rustc-cfg={name}");
+            println!("cargo:rustc-link-lib=static={library}");
+            found = true;
+        }
+    }
+    if found {
+        println!("cargo:rustc-link-lib=m");
+    }
+}

@@ -1,0 +1,99 @@
+//! The comparison: every case that can be compared today, one line a part, and at the end how many
+//! cases there were and how many differ.
+use crate::arguments::{Arguments, ARGUMENTS};
+use crate::probes::{Probe, PROBED, PROBES};
+use crate::{elementary, marked, masks, ours, scripts};
+use std::io::{self, Write};
+
+/// A part that differs shows this many of its cases.
+const SHOWN: usize = 3;
+
+/// Mask calls on which the reading is held against the original.
+const MASKS: usize = 2_000;
+
+/// What was compared so far. A check of the oracle itself is no case of the port's.
+pub struct Sum<'a, W: Write> {
+    out: &'a mut W,
+    cases: u64,
+    differ: u64,
+    unsound: u64,
+}
+
+impl<W: Write> Sum<'_, W> {
+    pub fn part(&mut self, name: &str, cases: u64, differing: &[String]) -> io::Result<()> {
+        self.cases += cases;
+        self.differ += differing.len() as u64;
+        let found = differing.len();
+        self.line(&format!("{name}: {cases} cases, {found} differ"))?;
+        self.some(differing)
+    }
+    fn own(&mut self, name: &str, cases: usize, failing: &[String]) -> io::Result<()> {
+        self.unsound += failing.len() as u64;
+        let found = failing.len();
+        self.line(&format!(
+            "the oracle itself, {name}: {cases} checks, {found} fail"
+        ))?;
+        self.some(failing)
+    }
+    pub fn absent(&mut self, what: &str) -> io::Result<()> {
+        self.line(&format!("NOT COMPARED: {what}"))
+    }
+    pub fn line(&mut self, line: &str) -> io::Result<()> {
+        writeln!(self.out, "{line}")?;
+        self.out.flush()
+    }
+    fn some(&mut self, cases: &[String]) -> io::Result<()> {
+        cases
+            .iter()
+            .take(SHOWN)
+            .try_for_each(|case| self.line(&format!("  differs: {case}")))
+    }
+}
+
+/// Compares with `count` scripts and answers whether nothing differs.
+pub fn compare(count: u64, out: &mut impl Write) -> io::Result<bool> {
+    let mut sum = Sum {
+        out,
+        cases: 0,
+        differ: 0,
+        unsound: 0,
+    };
+    let claims = marked::marked();
+    let failed: Vec<String> = claims.iter().filter(|c| !c.1).map(|c| c.0.into()).collect();
+    sum.own("what 01 states outright", claims.len(), &failed)?;
+    let (_, differ) = masks::mask_lines(1, MASKS);
+    let differ = vec!["the original's own gains".to_string(); differ];
+    sum.own("the mask where 01 follows the Rust", MASKS, &differ)?;
+    if ours::LINKED {
+        for check in elementary::checks() {
+            sum.part(&check.name, check.cases, &check.failed)?;
+        }
+    } else {
+        sum.absent("the elementary functions (no libhost.a: std's stand in for them)")?;
+    }
+    if PROBED {
+        for probe in PROBES {
+            sum.part(&format!("probe {}", probe.name), ARGUMENTS, &probed(probe))?;
+        }
+    } else {
+        sum.absent("the float helpers (no libprobe.a)")?;
+    }
+    scripts::compare(count, &mut sum)?;
+    let (cases, differ) = (sum.cases, sum.differ);
+    sum.line(&format!("{cases} cases, {differ} differ"))?;
+    Ok(sum.differ == 0 && sum.unsound == 0)
+}
+
+/// The arguments at which the port differs from the Rust.
+fn probed(probe: &Probe) -> Vec<String> {
+    let arguments = Arguments::new(probe.name, (probe.edges)());
+    let compared = arguments.filter_map(|words| Some(((probe.rust)(&words)?, words)));
+    let differs = |(want, words): (u64, Vec<u64>)| {
+        let got = (probe.port)(&words);
+        (got != want).then(|| format!("{words:x?}: Rust {want:x}, port {got:x}"))
+    };
+    compared
+        .take(ARGUMENTS as usize)
+        .filter_map(differs)
+        .collect()
+}

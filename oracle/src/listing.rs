@@ -1,0 +1,41 @@
+//! 01's listing: one line for each accepted frame and each refusal, then `end` or `bad`.
+use crate::engine::Particles;
+use crate::field::{read, Field};
+use crate::runner::{run, Answer, Bad, Ended};
+use crate::value::bits32;
+use std::fmt::Write;
+
+pub fn listing<E: Particles>(script: &[u8]) -> String {
+    let mut text = String::new();
+    let whole_rate = whole_rate(script);
+    let ended = run(script, |field, answer, engine: &E| match answer {
+        Answer::Framed(frame) => {
+            let sample = engine.elapsed_samples();
+            let (births, dropped, hash) = engine.tally();
+            writeln!(
+                text,
+                "frame {field} sample {sample} ms {} active {} births {births} dropped {dropped} \
+                 hash {hash:016x} activity {:08x}",
+                sample * 1000 / whole_rate,
+                engine.active_count(),
+                bits32(frame.activity),
+            )
+            .unwrap();
+        }
+        Answer::Refused(number) => writeln!(text, "field {field} refused {number}").unwrap(),
+        _ => {}
+    });
+    match ended {
+        Ok(Ended { count, .. }) => writeln!(text, "end {count}").unwrap(),
+        Err(Bad { field, number }) => writeln!(text, "field {field} bad {number}").unwrap(),
+    }
+    text
+}
+
+/// The whole part of the script's rate. Where the script has none no frame is printed.
+fn whole_rate(script: &[u8]) -> u64 {
+    match read(script, true) {
+        Ok((Field::Rate(rate), _)) => rate as u64,
+        _ => 0,
+    }
+}

@@ -1,0 +1,137 @@
+//! The oracle: the original Rust with our functions, and an independent reading of 01 around it.
+mod arguments;
+mod bits;
+mod bytes;
+mod calls;
+mod compare;
+mod digest;
+mod draws;
+mod elementary;
+mod engine;
+mod field;
+mod gen;
+#[cfg(linked)]
+mod linked;
+mod listing;
+mod marked;
+mod mask;
+mod masks;
+mod ours;
+mod port;
+mod probes;
+mod register;
+mod runner;
+mod scripts;
+#[cfg(not(linked))]
+mod standin;
+mod state;
+mod value;
+
+/// The original with our functions.
+#[allow(dead_code, clippy::all)]
+mod original {
+    include!(concat!(env!("OUT_DIR"), "/original.rs"));
+}
+
+/// The original with nothing substituted.
+#[allow(dead_code, clippy::all)]
+mod plain {
+    include!(concat!(env!("OUT_DIR"), "/plain.rs"));
+}
+
+use std::io::{self, Read, Write};
+use std::process::ExitCode;
+
+const USAGE: &str = "\
+oracle listing [plain] < script   the listing (plain: with std's functions)
+oracle bytes < script             the last frame's 2,308 bytes; the status is the entry's answer
+oracle state [plain] < script     every field of the state by name, after every field
+oracle gen SEED KIND > script     a script
+oracle kinds                      the kinds of scripts
+oracle compare N                  compares the port with the original; N scripts; status 1 on a difference
+oracle calls SEED N               N rounds of single functions of the original, arguments and answers
+oracle masks SEED N               N mask calls, bin tables and attenuations, as short numbers
+oracle digest N                   a line for each of N scripts of every kind
+";
+
+fn main() -> ExitCode {
+    let words: Vec<String> = std::env::args().skip(1).collect();
+    let words: Vec<&str> = words.iter().map(String::as_str).collect();
+    match command(&words) {
+        Ok(status) => ExitCode::from(status),
+        Err(e) => {
+            eprintln!("oracle: {e}");
+            ExitCode::from(2)
+        }
+    }
+}
+
+fn command(words: &[&str]) -> io::Result<u8> {
+    let mut out = io::BufWriter::new(io::stdout().lock());
+    match words {
+        ["listing"] => write!(out, "{}", listing::listing::<original::Engine>(&input()?))?,
+        ["listing", "plain"] => write!(out, "{}", listing::listing::<plain::Engine>(&input()?))?,
+        ["bytes"] => {
+            let mut lent = [0; bytes::SIZE];
+            let answer = bytes::last_frame::<original::Engine>(&input()?, &mut lent);
+            if answer == 0 {
+                out.write_all(&lent)?;
+            }
+            out.flush()?;
+            return Ok(answer as u8);
+        }
+        ["state"] => state::state::<original::Engine>(&input()?, &mut out)?,
+        ["state", "plain"] => state::state::<plain::Engine>(&input()?, &mut out)?,
+        ["gen", seed, name] => {
+            let (Ok(seed), Some(kind)) = (seed.parse(), gen::named(name)) else {
+                return usage();
+            };
+            out.write_all(&gen::script(seed, kind))?;
+        }
+        ["kinds"] => {
+            for kind in gen::KINDS {
+                writeln!(out, "{:12} {}", kind.name, kind.what)?;
+            }
+        }
+        ["compare", count] => {
+            let Ok(count) = count.parse() else {
+                return usage();
+            };
+            return Ok(u8::from(!compare::compare(count, &mut out)?));
+        }
+        ["calls", seed, rounds] => {
+            let (Ok(seed), Ok(rounds)) = (seed.parse(), rounds.parse()) else {
+                return usage();
+            };
+            write!(out, "{}", calls::lines(seed, rounds))?;
+        }
+        ["masks", seed, count] => {
+            let (Ok(seed), Ok(count)) = (seed.parse(), count.parse()) else {
+                return usage();
+            };
+            write!(out, "{}", masks::mask_lines(seed, count).0)?;
+            write!(out, "{}", masks::bin_lines(seed, count))?;
+            write!(out, "{}", masks::attenuation_lines(seed, count))?;
+        }
+        ["digest", seeds] => {
+            let Ok(seeds) = seeds.parse() else {
+                return usage();
+            };
+            digest::digest(seeds, &mut out)?;
+        }
+        _ => return usage(),
+    }
+    out.flush()?;
+    Ok(0)
+}
+
+fn usage() -> io::Result<u8> {
+    eprint!("{USAGE}");
+    Ok(2)
+}
+
+fn input() -> io::Result<Vec<u8>> {
+    let mut script = Vec::new();
+    io::stdin().lock().read_to_end(&mut script)?;
+    Ok(script)
+}

@@ -1,0 +1,62 @@
+//! The port's calls on whole scripts. A slice goes over as a pointer and a length.
+
+#[cfg(entry)]
+extern "C" {
+    fn rk_script(script: *const u8, length: usize, out: *mut u8, room: usize) -> u32;
+}
+
+#[cfg(listed)]
+extern "C" {
+    fn rk_probe_listing(script: *const u8, length: usize, out: *mut u8, room: usize) -> usize;
+}
+
+#[cfg(stated)]
+extern "C" {
+    fn rk_probe_state(script: *const u8, length: usize, out: *mut u8, room: usize) -> usize;
+}
+
+/// Which of these the archives have.
+pub const ENTRY: bool = cfg!(entry);
+pub const LISTED: bool = cfg!(listed);
+pub const STATED: bool = cfg!(stated);
+
+/// 01's entry: its answer and the lent bytes after it.
+#[cfg(entry)]
+pub fn last_frame(script: &[u8], out: &mut [u8]) -> Option<u32> {
+    Some(unsafe { rk_script(script.as_ptr(), script.len(), out.as_mut_ptr(), out.len()) })
+}
+
+#[cfg(not(entry))]
+pub fn last_frame(_: &[u8], _: &mut [u8]) -> Option<u32> {
+    None
+}
+
+/// The listing that the port's program prints.
+#[cfg(listed)]
+pub fn listing(script: &[u8], room: usize) -> Option<Vec<u8>> {
+    let mut out = vec![0; room];
+    let used =
+        unsafe { rk_probe_listing(script.as_ptr(), script.len(), out.as_mut_ptr(), out.len()) };
+    out.truncate(used);
+    Some(out)
+}
+
+#[cfg(not(listed))]
+pub fn listing(_: &[u8], _: usize) -> Option<Vec<u8>> {
+    None
+}
+
+/// The state after a script: 8 bytes a value, big-endian, in the order of `oracle state`.
+#[cfg(stated)]
+pub fn state(script: &[u8], room: usize) -> Option<Vec<u8>> {
+    let mut out = vec![0; room];
+    let used =
+        unsafe { rk_probe_state(script.as_ptr(), script.len(), out.as_mut_ptr(), out.len()) };
+    out.truncate(used);
+    Some(out)
+}
+
+#[cfg(not(stated))]
+pub fn state(_: &[u8], _: usize) -> Option<Vec<u8>> {
+    None
+}

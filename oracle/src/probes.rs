@@ -1,0 +1,85 @@
+//! The list of probes: a single function of the port, `rk_probe_NAME` in the archive `libprobe.a`,
+//! and the Rust that it must equal bit for bit. A later layer adds its rows here.
+use crate::bits::Bits;
+use crate::ours::Choose;
+
+/// The same arguments, as words, for the Rust and for the port. The Rust answers nothing where it
+/// would panic: nothing is compared there.
+pub struct Probe {
+    pub name: &'static str,
+    pub edges: fn() -> Vec<Vec<u64>>,
+    pub rust: fn(&[u64]) -> Option<u64>,
+    pub port: fn(&[u64]) -> u64,
+}
+
+/// Whether the archive of the probes is here.
+pub const PROBED: bool = cfg!(probed);
+
+macro_rules! probes {
+    ($($name:ident $foreign:ident ($($x:ident: $t:ty),*) -> $r:ty $(, if $guard:expr)? => $rust:expr;)*) => {
+        #[cfg(probed)]
+        extern "C" {
+            $(fn $foreign($($x: $t),*) -> $r;)*
+        }
+
+        #[cfg(not(probed))]
+        mod absent {
+            $(pub unsafe fn $foreign($(_: $t),*) -> $r {
+                unreachable!("no probe is called where the archive is absent")
+            })*
+        }
+        #[cfg(not(probed))]
+        use absent::*;
+
+        pub const PROBES: &[Probe] = &[$(Probe {
+            name: stringify!($name),
+            edges: || vec![$(<$t as Bits>::edges()),*],
+            rust: |words| {
+                let mut words = words.iter();
+                $(let $x = <$t as Bits>::of(*words.next()?);)*
+                $({
+                    let passes: bool = $guard;
+                    passes.then_some(())?;
+                })?
+                let answer: $r = $rust;
+                Some(answer.word())
+            },
+            port: |words| {
+                let mut words = words.iter();
+                $(let $x = <$t as Bits>::of(*words.next().unwrap());)*
+                unsafe { $foreign($($x),*) }.word()
+            },
+        }),*];
+    };
+}
+
+probes! {
+    floor32 rk_probe_floor32(x: f32) -> f32 => x.floor();
+    ceil32 rk_probe_ceil32(x: f32) -> f32 => x.ceil();
+    floor64 rk_probe_floor64(x: f64) -> f64 => x.floor();
+    ceil64 rk_probe_ceil64(x: f64) -> f64 => x.ceil();
+    max32 rk_probe_max32(x: f32, y: f32) -> f32 => x.our_max(y);
+    min32 rk_probe_min32(x: f32, y: f32) -> f32 => x.our_min(y);
+    max64 rk_probe_max64(x: f64, y: f64) -> f64 => x.our_max(y);
+    clamp32 rk_probe_clamp32(x: f32, a: f32, b: f32) -> f32, if a <= b => x.clamp(a, b);
+    abs32 rk_probe_abs32(x: f32) -> f32 => x.abs();
+    is_finite32 rk_probe_is_finite32(x: f32) -> bool => x.is_finite();
+    is_finite64 rk_probe_is_finite64(x: f64) -> bool => x.is_finite();
+    f64_to_u64 rk_probe_f64_to_u64(x: f64) -> u64 => x as u64;
+    f64_to_u32 rk_probe_f64_to_u32(x: f64) -> u32 => x as u32;
+    f32_to_u64 rk_probe_f32_to_u64(x: f32) -> u64 => x as u64;
+    f32_to_u32 rk_probe_f32_to_u32(x: f32) -> u32 => x as u32;
+    f32_to_f64 rk_probe_f32_to_f64(x: f32) -> f64 => f64::from(x);
+    f64_to_f32 rk_probe_f64_to_f32(x: f64) -> f32 => x as f32;
+    u64_to_f32 rk_probe_u64_to_f32(n: u64) -> f32 => n as f32;
+    bits32 rk_probe_bits32(x: f32) -> u32 => crate::value::bits32(x);
+    bits64 rk_probe_bits64(x: f64) -> u64 => crate::value::bits64(x);
+    of_bits32 rk_probe_of_bits32(b: u32) -> f32 => f32::from_bits(b);
+    of_bits64 rk_probe_of_bits64(b: u64) -> f64 => f64::from_bits(b);
+    rem32 rk_probe_rem32(x: f32, m: f32) -> f32 => x % m;
+    rem64 rk_probe_rem64(x: f64, m: f64) -> f64 => x % m;
+    rem_euclid32 rk_probe_rem_euclid32(x: f32, m: f32) -> f32 => x.rem_euclid(m);
+    rem_euclid64 rk_probe_rem_euclid64(x: f64, m: f64) -> f64 => x.rem_euclid(m);
+    wrapping_mul rk_probe_wrapping_mul(a: u64, b: u64) -> u64 => a.wrapping_mul(b);
+    rotate_left rk_probe_rotate_left(x: u64, n: u32) -> u64 => x.rotate_left(n);
+}
