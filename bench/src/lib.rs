@@ -1,0 +1,54 @@
+//! What the programs here share: the proved functions, linked; the reference; distances.
+pub mod precise;
+pub mod reference;
+pub mod tables;
+
+mod linked {
+    extern "C" {
+        pub fn rk_log2(x: f32) -> f32;
+        pub fn rk_exp2(x: f32) -> f32;
+        pub fn rk_exp(x: f32) -> f32;
+        pub fn rk_exp64(x: f64) -> f64;
+        pub fn rk_pow8(x: f32) -> f32;
+        pub fn rk_pow10(x: f32) -> f32;
+        pub fn rk_sqrt(x: f32) -> f32;
+    }
+}
+
+macro_rules! ours {
+    ($($name:ident, $linked:ident, $float:ty;)*) => {
+        /// The proved functions. They take any float and have no state, so a call is safe.
+        pub mod ours {
+            $(
+                #[inline(always)]
+                pub fn $name(x: $float) -> $float {
+                    unsafe { super::linked::$linked(x) }
+                }
+            )*
+        }
+    };
+}
+
+ours! {
+    log2, rk_log2, f32;
+    exp2, rk_exp2, f32;
+    exp, rk_exp, f32;
+    exp64, rk_exp64, f64;
+    pow8, rk_pow8, f32;
+    pow10, rk_pow10, f32;
+    sqrt, rk_sqrt, f32;
+}
+
+/// The distance of neighbouring f32s at the size of t, and past the largest.
+pub fn spacing32(t: f64) -> f64 {
+    let exponent = ((t.abs().to_bits() >> 52) as i32 - 1023).clamp(-126, 127);
+    2f64.powi(exponent - 23)
+}
+
+pub fn same32(a: f32, b: f32) -> bool {
+    a.to_bits() == b.to_bits() || a.is_nan() && b.is_nan()
+}
+
+pub fn same64(a: f64, b: f64) -> bool {
+    a.to_bits() == b.to_bits() || a.is_nan() && b.is_nan()
+}

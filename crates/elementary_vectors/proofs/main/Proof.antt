@@ -1,0 +1,62 @@
+-- `main` is safe and ends: it counts no more than a million cases, and no more wrong ones than cases.
+use borrow.Author.Needs.{needs}
+use Prim.Native.Nat.{_-_, _≤_}
+use Rattle.elementary_vectors.proofs.main.Statement.{statement}
+use Rattle.elementary_vectors.proofs.main.Tie as tie
+
+abbrev Inv-loop : tie.InvT-loop
+Inv-loop line₀ cases₀ wrong₀ line cases wrong = (cases ≤ 1000000) × (wrong ≤ cases)
+
+abbrev μ-loop : tie.MeasureT-loop
+μ-loop line₀ cases₀ wrong₀ line cases wrong = 1000000 - cases
+
+loop-holds : tie.Need-loop-holds Inv-loop μ-loop
+loop-holds c = search needs
+
+next-requires : tie.Need-next-requires Inv-loop μ-loop
+next-requires c κs = search needs
+
+add-cases : tie.Need-add-cases Inv-loop μ-loop
+add-cases c = search needs
+
+differs-requires : tie.Need-differs-requires Inv-loop μ-loop
+differs-requires c κs = search needs
+
+add-wrong : tie.Need-add-wrong Inv-loop μ-loop
+add-wrong c = search needs
+
+loop-less : tie.Need-loop-less Inv-loop μ-loop
+loop-less c = search needs
+
+loop-again : tie.Need-loop-again Inv-loop μ-loop
+loop-again c = search needs
+
+loop-less-2 : tie.Need-loop-less-2 Inv-loop μ-loop
+loop-less-2 c = search needs
+
+loop-again-2 : tie.Need-loop-again-2 Inv-loop μ-loop
+loop-again-2 c = search needs
+
+say-requires : tie.Need-say-requires Inv-loop μ-loop
+say-requires c κs = search needs
+
+returns : tie.Need-returns Inv-loop μ-loop
+returns c = search needs
+
+pub main-spec : {M : Type 1} → statement M
+main-spec =
+    tie.close
+    (tie.spec
+    Inv-loop
+    μ-loop
+    loop-holds
+    next-requires
+    add-cases
+    differs-requires
+    add-wrong
+    loop-less
+    loop-again
+    loop-less-2
+    loop-again-2
+    say-requires
+    returns)
