@@ -1,4 +1,4 @@
--- THE CLAIM: e^x at binary64 never falls as x rises, the infinities included. Each step keeps the order: the size's pattern, the product, the side, the polynomial, the assembly.
+-- THE CLAIM: e^x at binary64 never falls as x rises, the infinities included. Each step keeps the order: the roundedSizes pattern, the product, the side, the polynomial, the assembly.
 use mathlib.Core.Path.{_≡_, refl, ap, _∙_, subst}
 use mathlib.Core.Logic.{inl, inr}
 use mathlib.Core.Bool.{Bool, true, false}
@@ -122,7 +122,7 @@ module _ (p : ℕ) (h : p < 4652218415073722368) where
       let e : (9223372036854775808 + p) % 9223372036854775808 ≡ p = omega arith in
       rw (le-ltb (9223372036854775808 + p) 9223372036854775808 l, e)
 
--- ---- x within the edges, as its size's pattern
+-- ---- x within the edges, as its roundedSizes pattern
 abbrev bits : ℕ → ℤ → ℕ
 bits m e = toBits binary64 (fin false m e)
 

@@ -14,7 +14,7 @@ use lib.Ieee.Order.{round-mono}
 use Rattle.floats.specs.Convert.{convert}
 use Rattle.floats.proofs.Values.{own-round}
 use Rattle.floats.proofs.Floor.{round-number}
-use Rattle.floats.proofs.Mono.{kz-mono, round-kz, le→signed, plus, minus}
+use Rattle.floats.proofs.Mono.{signed-key-rises, round-signed-key, le→signed, plus, minus}
 use Rattle.floats.proofs.Rules.{key→le, le-left, le-right}
 use Rattle.floats.proofs.Rising.{lowest, highest, le-refl, past-highest, not-lowest}
 use Rattle.floats.proofs.Mag.{le-of}
@@ -46,8 +46,8 @@ module _ (f : Format) where
   unfolding convert
   between s m e t n d h =
       key→le f (round f s (m * up e) (down e)) (round f t (n * up d) (down d)) (round-fits f s (m * up e) (down e)) (round-fits f t (n * up d) (down d)) (round-number f s (m * up e) (down e)) (round-number f t (n * up d) (down d))
-      (rw (round-kz f s (m * up e) (down e) (down-pos e), round-kz f t (n * up d) (down d) (down-pos d))
-      (kz-mono f (plus s (m * up e)) (minus s (m * up e)) (down e) (plus t (n * up d)) (minus t (n * up d)) (down d) (down-pos e) (down-pos d) (le→signed s m e t n d h)))
+      (rw (round-signed-key f s (m * up e) (down e) (down-pos e), round-signed-key f t (n * up d) (down d) (down-pos d))
+      (signed-key-rises f (plus s (m * up e)) (minus s (m * up e)) (down e) (plus t (n * up d)) (minus t (n * up d)) (down d) (down-pos e) (down-pos d) (le→signed s m e t n d h)))
 
   pub convert-rises : (x y : Float) → T (le x y) → T (le (convert f x) (convert f y))
   unfolding isNan

@@ -15,7 +15,7 @@ use Rattle.floats.specs.Remainder.{remEuclid}
 use Rattle.floats.proofs.Values.{own-round}
 use Rattle.floats.proofs.Floor.{round-number}
 use Rattle.floats.proofs.Keys.{over, side, mag, key}
-use Rattle.floats.proofs.Mono.{size', size'-mono, round-side}
+use Rattle.floats.proofs.Mono.{roundedSize, rounded-size-rises, round-side}
 use Rattle.floats.proofs.Rules.{key→le, not-lt→le, lt→le, add-number, neg-finite, finite-number, between-finite}
 use Rattle.floats.proofs.Rising.{nought, add-rises, not-above, not-itself}
 use Rattle.lists.specs.Pick.{by-case}
@@ -55,10 +55,10 @@ module _ (f : Format) (s : Bool) (a : ℕ) (e : ℤ) (n : ℕ) (d : ℤ) (q : T 
       round-same f false M c (suc n * up d) (down d) c-pos (down-pos d) (mul-right-comm (suc n * up d) (down e) (down d) ∙ mul-assoc (suc n * up d) (down d) (down e) ∙ ap (λ (z : ℕ). suc n * up d * z) (mul-comm (down d) (down e)))
       ∙ own-round f false (suc n) d q
 
-  small : size' f (A % M) c ≤ mag f m
-  small = subst (λ (y : Float). size' f (A % M) c ≤ mag f y) divisor-is (size'-mono f (A % M) c M c c-pos c-pos (mul-le-mul-right c (le-of-lt (mod-lt A M-pos))))
+  small : roundedSize f (A % M) c ≤ mag f m
+  small = subst (λ (y : Float). roundedSize f (A % M) c ≤ mag f y) divisor-is (rounded-size-rises f (A % M) c M c c-pos c-pos (mul-le-mul-right c (le-of-lt (mod-lt A M-pos))))
 
-  rem-key : key f r ≡ side (over f) s (size' f (A % M) c)
+  rem-key : key f r ≡ side (over f) s (roundedSize f (A % M) c)
   rem-key = ap (key f) rem-is ∙ round-side f s (A % M) c
 
   rem-fits : T (fits f r)
@@ -84,11 +84,11 @@ module _ (f : Format) (s : Bool) (a : ℕ) (e : ℤ) (n : ℕ) (d : ℤ) (q : T 
   side-least false o x y h = omega arith
 
   rem-most : T (le r m)
-  rem-most = key→le f r m rem-fits q rem-number m-number (subst (λ (z : ℕ). z ≤ key f m) (sym rem-key) (side-most s (over f) (size' f (A % M) c) (mag f m) small))
+  rem-most = key→le f r m rem-fits q rem-number m-number (subst (λ (z : ℕ). z ≤ key f m) (sym rem-key) (side-most s (over f) (roundedSize f (A % M) c) (mag f m) small))
 
   rem-least : T (le (neg m) r)
   unfolding neg
-  rem-least = key→le f (neg m) r (neg-fits f m q) rem-fits minus-number rem-number (subst (λ (z : ℕ). key f (neg m) ≤ z) (sym rem-key) (side-least s (over f) (size' f (A % M) c) (mag f m) small))
+  rem-least = key→le f (neg m) r (neg-fits f m q) rem-fits minus-number rem-number (subst (λ (z : ℕ). key f (neg m) ≤ z) (sym rem-key) (side-least s (over f) (roundedSize f (A % M) c) (mag f m) small))
 
   -- r + m, where r lies from -m to 0
   no-sum : add f (neg m) m ≡ nought

@@ -16,7 +16,7 @@ use Rattle.floats.specs.Whole.{floor, ceil, cut, lift, Cut, Lifted, Whol
 use Rattle.floats.proofs.Values.{fine, unique}
 use Rattle.floats.proofs.Floor.{kept, lift-le, ceil-is, floor-fits, floor-number}
 use Rattle.floats.proofs.Keys.{key}
-use Rattle.floats.proofs.Mono.{plus, minus, kz, kz-mono, round-kz, le→signed}
+use Rattle.floats.proofs.Mono.{plus, minus, signedKey, signed-key-rises, round-signed-key, le→signed}
 use Rattle.floats.proofs.Rules.{key→le, le-left, le-right}
 use Rattle.floats.proofs.Rising.{le-refl, lowest, highest, past-lowest, past-highest, neg-falls}
 
@@ -126,10 +126,10 @@ sized-le false m e true n g h =
 sized-le true m e false n g h = omega arith
 sized-le true m e true n g h = omega (arith, lift-mono (n * up g) (down g) (m * up e) (down e) (down-pos g) (down-pos e) (omega (arith, zero-mul (down e), zero-mul (down g))))
 
-whole-key : (f : Format) (s : Bool) (m : ℕ) (e : ℤ) → key f (floor f (fin s m e)) ≡ kz f (plus s (sized s m e)) (minus s (sized s m e)) 1
+whole-key : (f : Format) (s : Bool) (m : ℕ) (e : ℤ) → key f (floor f (fin s m e)) ≡ signedKey f (plus s (sized s m e)) (minus s (sized s m e)) 1
 unfolding floor
-whole-key f false m e = round-kz f false (cut m e) 1 (pow-pos 0)
-whole-key f true m e = round-kz f true (lift m e) 1 (pow-pos 0)
+whole-key f false m e = round-signed-key f false (cut m e) 1 (pow-pos 0)
+whole-key f true m e = round-signed-key f true (lift m e) 1 (pow-pos 0)
 
 floor-inf : (f : Format) (s : Bool) → floor f (inf s) ≡ inf s
 unfolding floor
@@ -154,7 +154,7 @@ module _ (f : Format) where
   floor-rises (fin s m e) (fin t n g) h =
       key→le f (floor f (fin s m e)) (floor f (fin t n g)) (floor-fits f (fin s m e)) (floor-fits f (fin t n g)) (fin-number s m e) (fin-number t n g)
       (rw (whole-key f s m e, whole-key f t n g)
-      (kz-mono f (plus s (sized s m e)) (minus s (sized s m e)) 1 (plus t (sized t n g)) (minus t (sized t n g)) 1 (pow-pos 0) (pow-pos 0) (sized-le s m e t n g (le→signed s m e t n g h))))
+      (signed-key-rises f (plus s (sized s m e)) (minus s (sized s m e)) 1 (plus t (sized t n g)) (minus t (sized t n g)) 1 (pow-pos 0) (pow-pos 0) (sized-le s m e t n g (le→signed s m e t n g h))))
 
   pub ceil-rises : (x y : Float) → T (fits f x) → T (fits f y) → T (le x y) → T (le (ceil f x) (ceil f y))
   ceil-rises x y p q h =

@@ -1,6 +1,6 @@
 -- The bit pattern of a rounded fraction, over the format: k dropped digits and the q that is kept give k * hid + q, or an infinity's pattern where that is less.
 use Prim.Native.Nat.{ℕ, suc, _+_, _-_, _*_, _/_, _%_, _^_, _≤_, _<_, min, compare}
-use native.Mathlib.Nat.{le-refl, le-trans, le-of-eq, lt-of-lt-of-le, lt-of-le-of-lt, lt-of-not-le, not-le-of-lt, lt-irrefl, le-of-suc-le-suc, eq-or-lt-of-le, eq-zero-or-pos, one-mul, zero-add, mul-comm, mul-assoc, mul-le-mul-right, mul-lt-mul-of-pos-right, mul-div-cancel, add-mul, suc-mul, div-div-eq-div-mul, pow-succ', le-div-iff-mul-le}
+use native.Mathlib.Nat.{le-refl, le-trans, le-of-eq, lt-of-lt-of-le, lt-of-le-of-lt, lt-of-not-le, not-le-of-lt, lt-irrefl, eq-or-lt-of-le, eq-zero-or-pos, one-mul, zero-add, mul-comm, mul-assoc, mul-le-mul-right, mul-lt-mul-of-pos-right, mul-div-cancel, add-mul, suc-mul, div-div-eq-div-mul, pow-succ', le-div-iff-mul-le}
 use native.Mathlib.Omega.{arith}
 use mathlib.Core.Logic.{inl, inr}
 use mathlib.Core.Path.{_≡_, refl, sym, ap, _∙_, subst}
@@ -14,13 +14,11 @@ use lib.Ieee.Fits.{two, down-pos, kept-lt, nearest-le, round-is, odd-fits}
 use lib.Ieee.Bits.{ofBits-toBits}
 use lib.Ieee.Exact.{HasValue, units-val}
 use lib.Ieee.Nearest.{closest, nearest-ge}
+use Rattle.floats.proofs.Values.{pow-le-back}
 
 -- ---- powers of two
-pow-lt-back : (i p : ℕ) → 2 ^ i < 2 ^ p → i < p
+pub pow-lt-back : (i p : ℕ) → 2 ^ i < 2 ^ p → i < p
 pow-lt-back i p h = lt-of-not-le (λ (g : p ≤ i). lt-irrefl (2 ^ i) (lt-of-lt-of-le h (pow-mono g)))
-
-pow-le-back : (a l : ℕ) → 2 ^ a ≤ 2 ^ l → a ≤ l
-pow-le-back a l h = le-of-suc-le-suc (lt-of-not-le (λ (g : suc l ≤ a). lt-irrefl (2 ^ l) (lt-of-lt-of-le (pow-lt g) h)))
 
 pub size-gt : (n j : ℕ) → 2 ^ j ≤ n → j < size n
 size-gt n j h = lt-of-not-le (λ (g : size n ≤ j). not-le-of-lt (lt-of-lt-of-le (size-lt n) (pow-mono g)) h)

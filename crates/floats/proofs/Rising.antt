@@ -11,7 +11,7 @@ use lib.Ieee.Fits.{add-fits, mul-fits, div-fits, neg-fits, up-pos, down-pos, and
 use lib.Ieee.Scale.{finite}
 use Rattle.floats.proofs.Facts.{eq-self}
 use Rattle.floats.proofs.Keys.{over, side, key, key-neg}
-use Rattle.floats.proofs.Mono.{add-up, add-swap, mul-up, div-up, round-side, size'-zero}
+use Rattle.floats.proofs.Mono.{add-up, add-swap, mul-up, div-up, round-side, rounded-size-zero}
 use Rattle.floats.proofs.Rules.{le→key, key→le, le-left, le-right, add-number}
 
 abbrev pub nought : Float
@@ -207,7 +207,7 @@ module _ (f : Format) where
   unfolding mul
   zero-times s m e g =
       ap (λ (a : ℕ). key f (round f (unlike s true) a (down e * down g))) (ap (λ (z : ℕ). m * up e * z) (zero-mul (up g)) ∙ mul-zero (m * up e))
-      ∙ round-side f (unlike s true) 0 (down e * down g) ∙ ap (side (over f) (unlike s true)) (size'-zero f (down e * down g) (mul-pos (down-pos e) (down-pos g))) ∙ middle (unlike s true) (over f)
+      ∙ round-side f (unlike s true) 0 (down e * down g) ∙ ap (side (over f) (unlike s true)) (rounded-size-zero f (down e * down g) (mul-pos (down-pos e) (down-pos g))) ∙ middle (unlike s true) (over f)
     where
       middle : (s : Bool) (o : ℕ) → side o s 0 ≡ o
       middle true o = omega arith

@@ -4,17 +4,13 @@ use mathlib.Core.Bool.{false}
 use Prim.Native.Nat.{ℕ, suc, _+_, _-_, _*_, _%_, _^_, _<_, _≤_, min}
 use native.Mathlib.Omega.{arith}
 use mathlib.Core.Path.{_≡_, ap, _∙_}
-use lib.Pow.{pow-mono}
 use lib.Count.{leadingZeros, leading-top}
 use lib.Ieee.{binary32, ofBits, ofInt, round}
 use lib.Ieee.Nearest.{closest}
-use native.Mathlib.Nat.{lt-of-not-le, lt-irrefl, lt-of-lt-of-le}
+use Rattle.floats.proofs.Pack.{pow-lt-back}
 use Rattle.floats.proofs.Narrow.{closest-half, shifted, unit-in, rounded-whole}
 use Rattle.floats.proofs.cast.u64_to_f32.Statement.{statement}
 use Rattle.floats.proofs.cast.u64_to_f32.Tie as tie
-
-pow-lt-back : (i p : ℕ) → 2 ^ i < 2 ^ p → i < p
-pow-lt-back i p h = lt-of-not-le (λ (g : p ≤ i). lt-irrefl (2 ^ i) (lt-of-lt-of-le h (pow-mono g)))
 
 module _ (n : ℕ) (h : 4294967296 ≤ n) (b : n < 2 ^ 64) where
   few : leadingZeros 64 n ≤ 31
