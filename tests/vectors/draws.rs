@@ -1,5 +1,6 @@
 //! Prints the stored cases of `draws_vectors`: SplitMix64's published outputs for the seeds 0 and
-//! 1234567, each beside the state that its output function is applied to, and two worked examples.
+//! 1234567, each beside the state that its output function is applied to; two worked examples; and a
+//! sample of the original's own answers (tests/answers/calls.txt, which the oracle prints).
 //!
 //!     rustc -O tests/vectors/draws.rs -o target/draws && target/draws > crates/draws_vectors/stdin
 
@@ -22,6 +23,19 @@ const SEED_1234567: [u64; 5] = [
     16408922859458223821,
 ];
 
+/// A line `name operands -> answer` for each call; numbers in decimal, floats by their bits.
+const ANSWERS: &str = include_str!("../answers/calls.txt");
+
+fn answered(name: &str) -> impl Iterator<Item = (Vec<&'static str>, &'static str)> + '_ {
+    ANSWERS.lines().filter_map(move |call| {
+        let (operands, answer) = call
+            .strip_prefix(name)?
+            .strip_prefix(' ')?
+            .split_once(" -> ")?;
+        Some((operands.split(' ').collect(), answer))
+    })
+}
+
 fn line(number: u8, name: &str, operands: [u64; 3], answer: u64) {
     let [a, b, c] = operands;
     println!("{number:02x} {name:<12} {a:016x} {b:016x} {c:016x} {answer:016x}");
@@ -37,4 +51,25 @@ fn main() {
     }
     line(0, "mix", [0, 0, 0], 0);
     line(1, "sprinkle_key", [2, 5, 0], (1 << 62) + (1 << 60) + 5);
+    let whole = |number: &str| number.parse::<u64>().unwrap();
+    for (operands, answer) in answered("mix") {
+        line(0, "mix", [whole(operands[0]), 0, 0], whole(answer));
+    }
+    for (operands, answer) in answered("sprinkle_key") {
+        line(
+            1,
+            "sprinkle_key",
+            [whole(operands[0]), whole(operands[1]), 0],
+            whole(answer),
+        );
+    }
+    for (operands, answer) in answered("random") {
+        let bits = u64::from_str_radix(answer, 16).unwrap();
+        line(
+            2,
+            "random",
+            [whole(operands[0]), whole(operands[1]), 0],
+            bits,
+        );
+    }
 }

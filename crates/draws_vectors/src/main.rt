@@ -1,5 +1,5 @@
-// Runs the draws on stored cases (tests/vectors/draws.rs): SplitMix64's published outputs and worked
-// examples. Says how many differ.
+// Runs the draws on stored cases (tests/vectors/draws.rs): SplitMix64's published outputs, worked
+// examples and the original's own answers. Says how many differ.
 use vectors::answer;
 use vectors::first;
 use vectors::operation;
@@ -10,7 +10,8 @@ fn differs(line: &[u8; 84]) -> bool {
     let b = second(line);
     match operation(line) {
         0 => draws::mix(a) != answer(line),
-        _ => draws::sprinkle_key(a as usize, b) != answer(line),
+        1 => draws::sprinkle_key(a as usize, b) != answer(line),
+        _ => (floats::bits32(draws::random(a, b)) as u64) != answer(line),
     }
 }
 
