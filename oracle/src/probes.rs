@@ -1,6 +1,7 @@
 //! The list of probes: a single function of the port, `rk_probe_NAME` in the archive `libprobe.a`,
 //! and the Rust that it must equal bit for bit. A later layer adds its rows here.
 use crate::bits::Bits;
+use crate::original::open;
 use crate::ours::Choose;
 
 /// The same arguments, as words, for the Rust and for the port. The Rust answers nothing where it
@@ -82,4 +83,7 @@ probes! {
     rem_euclid64 rk_probe_rem_euclid64(x: f64, m: f64) -> f64 => x.rem_euclid(m);
     wrapping_mul rk_probe_wrapping_mul(a: u64, b: u64) -> u64 => a.wrapping_mul(b);
     rotate_left rk_probe_rotate_left(x: u64, n: u32) -> u64 => x.rotate_left(n);
+    mix rk_probe_mix(x: u64) -> u64 => open::mix(x);
+    random rk_probe_random(index: u64, stream: u64) -> f32 => open::random(index, stream);
+    sprinkle_key rk_probe_sprinkle_key(lane: u64, index: u64) -> u64 => open::sprinkle_key(lane as usize, index);
 }

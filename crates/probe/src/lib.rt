@@ -1,4 +1,6 @@
-// Single layers handed over on numbers, for the comparison with the Rust alone: the float helpers.
+// Single layers handed over on numbers, for the comparison with the Rust alone: the float helpers and
+// the draws.
+ghost use Rattle.draws.specs.Draws.{keyOf, mixOf, randomOf};
 ghost use Rattle.floats.specs.Choose.{max, min, clamp, abs};
 ghost use Rattle.floats.specs.Convert.{convert};
 ghost use Rattle.floats.specs.Remainder.{remEuclid};
@@ -203,4 +205,25 @@ pub extern "C" fn rk_probe_rotate_left(x: u64, n: u32) -> u64
     ensures { λ r. ⌜ r ≡ rotated x n ⌝ }
 {
     floats::rotate_left(x, n)
+}
+
+#[no_mangle]
+pub extern "C" fn rk_probe_mix(x: u64) -> u64
+    ensures { λ r. ⌜ r ≡ mixOf x ⌝ }
+{
+    draws::mix(x)
+}
+
+#[no_mangle]
+pub extern "C" fn rk_probe_random(index: u64, stream: u64) -> f32
+    ensures { λ r. ⌜ r ≡ randomOf index stream ⌝ }
+{
+    draws::random(index, stream)
+}
+
+#[no_mangle]
+pub extern "C" fn rk_probe_sprinkle_key(lane: u64, index: u64) -> u64
+    ensures { λ r. ⌜ r ≡ keyOf lane index ⌝ }
+{
+    draws::sprinkle_key(lane as usize, index)
 }
