@@ -45,7 +45,7 @@ pub fn sqrt(x: f32) -> f32 {
     } else {
         digits << 24
     };
-    let field = (rung + 1) / 2 + 51;
+    let field = rung.div_ceil(2) + 51;
     f32::from_bits(field * (1 << 23) + nearest_root(n) as u32)
 }
 
@@ -100,19 +100,19 @@ fn shifted(m: u64, places: i64) -> u64 {
 }
 
 pub fn exp2(x: f32) -> f32 {
-    power(1.0, x)
+    power(f64::from_bits(0x3ff0_0000_0000_0000), x)
 }
 
 pub fn exp(x: f32) -> f32 {
-    power(1.4426950408889634, x)
+    power(f64::from_bits(0x3ff7_1547_652b_82fe), x)
 }
 
 pub fn pow8(x: f32) -> f32 {
-    power(3.0, x)
+    power(f64::from_bits(0x4008_0000_0000_0000), x)
 }
 
 pub fn pow10(x: f32) -> f32 {
-    power(3.321928094887362, x)
+    power(f64::from_bits(0x400a_934f_0979_a371), x)
 }
 
 pub fn db_to_gain(db: f32) -> f32 {
