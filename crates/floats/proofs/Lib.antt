@@ -28,3 +28,5 @@ pub mod PositiveBits
 pub mod Arms
 pub mod Compared
 pub mod Rescaled
+pub mod Spans
+pub mod Again
