@@ -20,7 +20,7 @@ use Rattle.floats.proofs.Rules.{key→le, not-lt→le, lt→le, add-num
 use Rattle.floats.proofs.Rising.{nought, add-rises, not-above, not-itself}
 use Rattle.lists.specs.Pick.{by-case}
 
-nought-fits : (f : Format) → T (fits f nought)
+pub nought-fits : (f : Format) → T (fits f nought)
 unfolding fits
 nought-fits f = tt
 

@@ -32,3 +32,5 @@ pub mod PatternOrder
 pub mod Naturals
 pub mod Halves
 pub mod Through
+pub mod Spans
+pub mod Again

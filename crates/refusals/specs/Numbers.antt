@@ -1,0 +1,36 @@
+-- 01's numbers of the refusals, and of an answer. Definitions only.
+use Prim.Native.Nat.{ℕ}
+use Rattle.refusals.specs.declared.Refusal.{Refusal}
+use Rattle.refusals.specs.declared.Refusal.the-variants.{Rate, Slot, Size, Elapsed, Lengths, Logs, Seconds, Tag, Cut, Value, Place, Script}
+use Rattle.refusals.specs.declared.Answer.{Answer}
+use Rattle.refusals.specs.declared.Answer.the-variants.{Taken, Refused}
+
+abbrev pub numberOf : Refusal → ℕ
+-- the rate is not finite, or outside 8,000 to 384,000
+numberOf Rate = 1
+-- slot 256 or above
+numberOf Slot = 2
+-- a hop or an FFT size outside the limits
+numberOf Size = 3
+-- elapsed samples above 2^40
+numberOf Elapsed = 4
+-- lent lengths differ
+numberOf Lengths = 5
+-- a log is not finite, or less than the one before it
+numberOf Logs = 6
+-- a frame's elapsed seconds are negative or not finite
+numberOf Seconds = 7
+-- script: an unknown tag
+numberOf Tag = 8
+-- script: a header, a length or a value cut short
+numberOf Cut = 9
+-- script: a flag, a shape or a direction out of range
+numberOf Value = 10
+-- script: the rate is not first, or comes twice
+numberOf Place = 11
+-- a script above 60,000 bytes
+numberOf Script = 12
+
+abbrev pub answerOf : Answer → ℕ
+answerOf Taken = 0
+answerOf (Refused r) = numberOf r

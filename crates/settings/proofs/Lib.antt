@@ -1,0 +1,4 @@
+pub mod Again
+pub mod Seconds
+pub mod Attack
+pub mod Lifetimes

@@ -1,0 +1,31 @@
+-- `gap` meets its contract: the callees' answers, put together.
+use Rattle.timing.specs.Streams.{gapOf}
+use borrow.Author.Needs.{needs}
+use Rattle.timing.proofs.gap.Statement.{statement}
+use Rattle.timing.proofs.gap.Tie as tie
+
+wrapping-add-u64-requires : tie.Need-wrapping-add-u64-requires
+wrapping-add-u64-requires c κs = search needs
+
+random-requires : tie.Need-random-requires
+random-requires c κs = search needs
+
+floor32-requires : tie.Need-floor32-requires
+floor32-requires c κs = search needs
+
+f32-to-f64-requires : tie.Need-f32-to-f64-requires
+f32-to-f64-requires c κs = search needs
+
+returns : tie.Need-returns
+unfolding gapOf
+returns c = cc
+
+pub gap-spec : {M : Type 1} → statement M
+gap-spec =
+    tie.close
+    (tie.spec
+    wrapping-add-u64-requires
+    random-requires
+    floor32-requires
+    f32-to-f64-requires
+    returns)
