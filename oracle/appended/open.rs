@@ -66,6 +66,43 @@ pub mod open {
         engine.configure(settings.into());
         engine.config.envelope(index, sample_rate)
     }
+    /// Settings as `configure` leaves them.
+    pub fn mended(settings: &crate::field::Settings) -> crate::field::Settings {
+        let mut engine = Engine::new(48_000.0);
+        engine.configure(settings.into());
+        let mended = engine.config;
+        crate::field::Settings {
+            rate_hz: mended.rate_hz,
+            size_octaves: mended.size_octaves,
+            phase: mended.phase,
+            partials: mended.partials as u32,
+            partial_rolloff_db: mended.partial_rolloff_db,
+            attack_ms: mended.attack_ms,
+            release_ms: mended.release_ms,
+            ..*settings
+        }
+    }
+    fn at_reference(reference: f64, sync: bool) -> Engine {
+        let mut engine = Engine::new(48_000.0);
+        engine.config.enabled = false;
+        engine.config.sync = sync;
+        engine.phase = reference;
+        engine
+    }
+    /// The index of a lane's stream that is aligned to a reference.
+    pub fn aligned_index(lane: usize, reference: f64, sync: bool) -> u64 {
+        let mut engine = at_reference(reference, sync);
+        engine.align_streams();
+        engine.streams[lane].index
+    }
+    /// The index of a lane's stream that is due, after one sample.
+    pub fn sampled_index(index: u64, lane: usize, reference: f64, sync: bool) -> u64 {
+        let mut engine = at_reference(reference, sync);
+        engine.streams[lane].index = index;
+        engine.streams[lane].next = f64::NEG_INFINITY;
+        engine.advance(1);
+        engine.streams[lane].index
+    }
     pub fn timing_reference(opportunity: u64) -> f64 {
         let mut engine = Engine::new(48_000.0);
         engine.opportunity = opportunity;

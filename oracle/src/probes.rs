@@ -1,6 +1,7 @@
 //! The list of probes: a single function of the port, `rk_probe_NAME` in the archive `libprobe.a`,
 //! and the Rust that it must equal bit for bit. A later layer adds its rows here.
 use crate::bits::Bits;
+use crate::field::Settings;
 use crate::original::open;
 use crate::ours::Choose;
 
@@ -11,6 +12,44 @@ pub struct Probe {
     pub edges: fn() -> Vec<Vec<u64>>,
     pub rust: fn(&[u64]) -> Option<u64>,
     pub port: fn(&[u64]) -> u64,
+}
+
+/// The settings of a new engine.
+const PLAIN: Settings = Settings {
+    enabled: true,
+    shape: 0,
+    direction: 0,
+    rate_hz: 1.0,
+    size_octaves: 1.0,
+    phase: 0.0,
+    scheduled: true,
+    sync: false,
+    hop_samples: 0,
+    partials: 1,
+    partial_rolloff_db: 6.0,
+    attack_ms: 0.0,
+    release_ms: 70.0,
+};
+
+fn settings(
+    kind: u32,
+    way: u32,
+    rate: f32,
+    size: f32,
+    hop: u32,
+    attack: f32,
+    release: f32,
+) -> Settings {
+    Settings {
+        shape: kind.min(1) as u8,
+        direction: way.min(2) as u8,
+        rate_hz: rate,
+        size_octaves: size,
+        hop_samples: hop,
+        attack_ms: attack,
+        release_ms: release,
+        ..PLAIN
+    }
 }
 
 /// Whether the archive of the probes is here.
@@ -86,4 +125,24 @@ probes! {
     mix rk_probe_mix(x: u64) -> u64 => open::mix(x);
     random rk_probe_random(index: u64, stream: u64) -> f32 => open::random(index, stream);
     sprinkle_key rk_probe_sprinkle_key(lane: u64, index: u64) -> u64 => open::sprinkle_key(lane as usize, index);
+    mended_rate rk_probe_mended_rate(x: f32) -> f32 => open::mended(&Settings { rate_hz: x, ..PLAIN }).rate_hz;
+    mended_size rk_probe_mended_size(x: f32) -> f32 => open::mended(&Settings { size_octaves: x, ..PLAIN }).size_octaves;
+    mended_phase rk_probe_mended_phase(x: f32) -> f32 => open::mended(&Settings { phase: x, ..PLAIN }).phase;
+    mended_rolloff rk_probe_mended_rolloff(x: f32) -> f32 => open::mended(&Settings { partial_rolloff_db: x, ..PLAIN }).partial_rolloff_db;
+    mended_attack rk_probe_mended_attack(x: f32) -> f32 => open::mended(&Settings { attack_ms: x, ..PLAIN }).attack_ms;
+    mended_release rk_probe_mended_release(x: f32) -> f32 => open::mended(&Settings { release_ms: x, ..PLAIN }).release_ms;
+    mended_partials rk_probe_mended_partials(n: u32) -> u64 => open::mended(&Settings { partials: n, ..PLAIN }).partials.into();
+    lifetime rk_probe_lifetime(kind: u32, way: u32, rate: f32, size: f32, hop: u32, attack: f32, release: f32, index: u64, sample_rate: f32) -> f32,
+        if sample_rate.is_finite() && sample_rate > 0.0
+        => open::envelope(&settings(kind, way, rate, size, hop, attack, release), index, sample_rate).0;
+    attack rk_probe_attack(kind: u32, way: u32, rate: f32, size: f32, hop: u32, attack: f32, release: f32, index: u64, sample_rate: f32) -> f32,
+        if sample_rate.is_finite() && sample_rate > 0.0
+        => open::envelope(&settings(kind, way, rate, size, hop, attack, release), index, sample_rate).1;
+    prepared_next rk_probe_prepared_next(index: u64, lane: u32, sync: bool) -> f64 => open::prepared_stream(lane as usize, index, sync).0;
+    prepared_emit rk_probe_prepared_emit(index: u64, lane: u32, sync: bool) -> bool => open::prepared_stream(lane as usize, index, sync).1;
+    sampled_index rk_probe_sampled_index(index: u64, lane: u32, reference: f64, sync: bool) -> u64, if lane < 3
+        => open::sampled_index(index, lane as usize, reference, sync);
+    aligned_first rk_probe_aligned_first(reference: f64, sync: bool) -> u64 => open::aligned_index(0, reference, sync);
+    aligned_third rk_probe_aligned_third(reference: f64, sync: bool) -> u64 => open::aligned_index(2, reference, sync);
+    timing_reference rk_probe_timing_reference(opportunity: u64) -> f64 => open::timing_reference(opportunity);
 }

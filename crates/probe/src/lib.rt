@@ -5,11 +5,20 @@ ghost use Rattle.floats.specs.Choose.{max, min, clamp, abs};
 ghost use Rattle.floats.specs.Convert.{convert};
 ghost use Rattle.floats.specs.Remainder.{remEuclid};
 ghost use Rattle.floats.specs.Whole.{floor, ceil};
+ghost use Rattle.floats.specs.Names.{f32};
 ghost use Rattle.floats.specs.Word.{product, rotated};
 ghost use lib.Ieee.Scale.{finite};
 ghost use lib.Ieee.{binary32, binary64, ofBits, toBits, ofInt, toUnsigned, rem};
 ghost use lib.IntN.{pos};
 ghost use mathlib.Core.Path.{_≡_};
+ghost use Rattle.probe.specs.Numbers.{shapeOf, directionOf, configOf, sampledOf};
+ghost use Rattle.settings.specs.Mending.{attackOf, releaseMsOf, partialsOf, rolloffOf, rateOf, sizeOf, phaseOf, mendedOf};
+ghost use Rattle.settings.specs.Envelope.{envelopeOf};
+ghost use Rattle.timing.specs.Streams.{preparedOf, alignedOf, referenceOf};
+use settings::Config;
+use settings::Direction;
+use settings::Shape;
+use timing::SprinkleStream;
 
 #[no_mangle]
 pub extern "C" fn rk_probe_floor32(x: f32) -> f32
@@ -226,4 +235,233 @@ pub extern "C" fn rk_probe_sprinkle_key(lane: u64, index: u64) -> u64
     ensures { λ r. ⌜ r ≡ keyOf lane index ⌝ }
 {
     draws::sprinkle_key(lane as usize, index)
+}
+
+fn shape_of(n: u32) -> Shape
+    ensures { λ r. ⌜ r ≡ shapeOf n ⌝ }
+{
+    if n == 0 {
+        Shape::Sprinkle
+    } else {
+        Shape::Cloud
+    }
+}
+
+fn direction_of(n: u32) -> Direction
+    ensures { λ r. ⌜ r ≡ directionOf n ⌝ }
+{
+    if n == 0 {
+        return Direction::Forward;
+    }
+    if n == 1 {
+        return Direction::Reverse;
+    }
+    Direction::Alternate
+}
+
+fn config_of(
+    kind: u32,
+    way: u32,
+    rate: f32,
+    size: f32,
+    turn: f32,
+    hop: u32,
+    count: u32,
+    rolloff: f32,
+    attack: f32,
+    release: f32,
+) -> Config
+    ensures { λ r. ⌜ r ≡ configOf kind way rate size turn hop count rolloff attack release ⌝ }
+{
+    let shape = shape_of(kind);
+    let direction = direction_of(way);
+    Config {
+        enabled: true,
+        shape,
+        direction,
+        rate_hz: rate,
+        size_octaves: size,
+        phase: turn,
+        scheduled: true,
+        sync: false,
+        hop_samples: hop as usize,
+        partials: count as usize,
+        partial_rolloff_db: rolloff,
+        attack_ms: attack,
+        release_ms: release,
+    }
+}
+
+// Mended settings, a field at a time.
+#[no_mangle]
+pub extern "C" fn rk_probe_mended_rate(x: f32) -> f32
+    ensures { λ r. ⌜ r ≡ rateOf x ⌝ }
+{
+    let mended = settings::mended(config_of(0, 0, x, 1.0, 0.0, 0, 1, 6.0, 0.0, 70.0));
+    mended.rate_hz
+}
+
+#[no_mangle]
+pub extern "C" fn rk_probe_mended_size(x: f32) -> f32
+    ensures { λ r. ⌜ r ≡ sizeOf x ⌝ }
+{
+    let mended = settings::mended(config_of(0, 0, 1.0, x, 0.0, 0, 1, 6.0, 0.0, 70.0));
+    mended.size_octaves
+}
+
+#[no_mangle]
+pub extern "C" fn rk_probe_mended_phase(x: f32) -> f32
+    ensures { λ r. ⌜ r ≡ phaseOf x ⌝ }
+{
+    let mended = settings::mended(config_of(0, 0, 1.0, 1.0, x, 0, 1, 6.0, 0.0, 70.0));
+    mended.phase
+}
+
+#[no_mangle]
+pub extern "C" fn rk_probe_mended_rolloff(x: f32) -> f32
+    ensures { λ r. ⌜ r ≡ rolloffOf x ⌝ }
+{
+    let mended = settings::mended(config_of(0, 0, 1.0, 1.0, 0.0, 0, 1, x, 0.0, 70.0));
+    mended.partial_rolloff_db
+}
+
+#[no_mangle]
+pub extern "C" fn rk_probe_mended_attack(x: f32) -> f32
+    ensures { λ r. ⌜ r ≡ attackOf x ⌝ }
+{
+    let mended = settings::mended(config_of(0, 0, 1.0, 1.0, 0.0, 0, 1, 6.0, x, 70.0));
+    mended.attack_ms
+}
+
+#[no_mangle]
+pub extern "C" fn rk_probe_mended_release(x: f32) -> f32
+    ensures { λ r. ⌜ r ≡ releaseMsOf x ⌝ }
+{
+    let mended = settings::mended(config_of(0, 0, 1.0, 1.0, 0.0, 0, 1, 6.0, 0.0, x));
+    mended.release_ms
+}
+
+#[no_mangle]
+pub extern "C" fn rk_probe_mended_partials(n: u32) -> u64
+    ensures { λ r. ⌜ r ≡ partialsOf n ⌝ }
+{
+    let mended = settings::mended(config_of(0, 0, 1.0, 1.0, 0.0, 0, n, 6.0, 0.0, 70.0));
+    mended.partials as u64
+}
+
+// The envelope of mended settings.
+#[no_mangle]
+pub extern "C" fn rk_probe_lifetime(
+    kind: u32,
+    way: u32,
+    rate: f32,
+    size: f32,
+    hop: u32,
+    attack: f32,
+    release: f32,
+    index: u64,
+    sample_rate: f32,
+) -> f32
+    ensures { λ r. ⌜ r ≡ envelopeOf (mendedOf (configOf kind way rate size (f32 0) hop 1 (f32 0x40c00000) attack release)) index «sample_rate» .lifetime ⌝ }
+{
+    let config = config_of(kind, way, rate, size, 0.0, hop, 1, 6.0, attack, release);
+    let contour = settings::envelope(settings::mended(config), index, sample_rate);
+    contour.lifetime
+}
+
+#[no_mangle]
+pub extern "C" fn rk_probe_attack(
+    kind: u32,
+    way: u32,
+    rate: f32,
+    size: f32,
+    hop: u32,
+    attack: f32,
+    release: f32,
+    index: u64,
+    sample_rate: f32,
+) -> f32
+    ensures { λ r. ⌜ r ≡ envelopeOf (mendedOf (configOf kind way rate size (f32 0) hop 1 (f32 0x40c00000) attack release)) index «sample_rate» .attack ⌝ }
+{
+    let config = config_of(kind, way, rate, size, 0.0, hop, 1, 6.0, attack, release);
+    let contour = settings::envelope(settings::mended(config), index, sample_rate);
+    contour.attack
+}
+
+fn prepared(index: u64, lane: u32, sync: bool) -> SprinkleStream
+    ensures { λ r. ⌜ r ≡ preparedOf index lane sync ⌝ }
+{
+    let stream = SprinkleStream {
+        index,
+        next: 0.0,
+        emit: false,
+    };
+    timing::prepare(stream, lane as usize, sync)
+}
+
+// A stream at an index: when it starts, and whether it sounds.
+#[no_mangle]
+pub extern "C" fn rk_probe_prepared_next(index: u64, lane: u32, sync: bool) -> f64
+    ensures { λ r. ⌜ r ≡ preparedOf index lane sync .next ⌝ }
+{
+    let stream = prepared(index, lane, sync);
+    stream.next
+}
+
+#[no_mangle]
+pub extern "C" fn rk_probe_prepared_emit(index: u64, lane: u32, sync: bool) -> bool
+    ensures { λ r. ⌜ r ≡ preparedOf index lane sync .emit ⌝ }
+{
+    let stream = prepared(index, lane, sync);
+    stream.emit
+}
+
+fn sampled(index: u64, lane: u32, reference: f64, sync: bool) -> SprinkleStream
+    ensures { λ r. ⌜ r ≡ sampledOf index lane reference sync ⌝ }
+{
+    let due = SprinkleStream {
+        index,
+        next: 0.0,
+        emit: false,
+    };
+    let once = timing::move_on(due, lane as usize, reference, sync);
+    if reference < once.next {
+        return once;
+    }
+    timing::move_on(once, lane as usize, reference, sync)
+}
+
+// The index of a due stream after one sample.
+#[no_mangle]
+pub extern "C" fn rk_probe_sampled_index(index: u64, lane: u32, reference: f64, sync: bool) -> u64
+    ensures { λ r. ⌜ r ≡ sampledOf index lane reference sync .index ⌝ }
+{
+    let stream = sampled(index, lane, reference, sync);
+    stream.index
+}
+
+// The indices of the streams that are aligned to a reference.
+#[no_mangle]
+pub extern "C" fn rk_probe_aligned_first(reference: f64, sync: bool) -> u64
+    ensures { λ r. ⌜ r ≡ alignedOf 0 reference sync .index ⌝ }
+{
+    let all = timing::align_streams(reference, sync);
+    let stream = all[0];
+    stream.index
+}
+
+#[no_mangle]
+pub extern "C" fn rk_probe_aligned_third(reference: f64, sync: bool) -> u64
+    ensures { λ r. ⌜ r ≡ alignedOf 2 reference sync .index ⌝ }
+{
+    let all = timing::align_streams(reference, sync);
+    let stream = all[2];
+    stream.index
+}
+
+#[no_mangle]
+pub extern "C" fn rk_probe_timing_reference(opportunity: u64) -> f64
+    ensures { λ r. ⌜ r ≡ referenceOf opportunity ⌝ }
+{
+    timing::timing_reference(opportunity)
 }

@@ -1,0 +1,41 @@
+-- Settings from plain numbers, and a due stream after one sample. Definitions only.
+use Prim.Native.Nat.{ℕ}
+use mathlib.Core.Bool.{Bool, true, false}
+use lib.Dec.{eqb}
+use lib.Ieee.{Float, lt}
+use Rattle.lists.specs.Pick.{pick}
+use Rattle.settings.specs.declared.Config.{Config}
+use Rattle.settings.specs.declared.Shape.{Shape}
+use Rattle.settings.specs.declared.Shape.the-variants.{Sprinkle, Cloud}
+use Rattle.settings.specs.declared.Direction.{Direction}
+use Rattle.settings.specs.declared.Direction.the-variants.{Forward, Reverse, Alternate}
+use Rattle.timing.specs.declared.SprinkleStream.{SprinkleStream}
+use Rattle.timing.specs.Streams.{movedOf}
+
+unfoldable pub shapeOf : ℕ → Shape
+shapeOf n = pick (eqb n 0) Sprinkle Cloud
+
+unfoldable pub directionOf : ℕ → Direction
+directionOf n = pick (eqb n 0) Forward (pick (eqb n 1) Reverse Alternate)
+
+unfoldable pub configOf : ℕ → ℕ → Float → Float → Float → ℕ → ℕ → Float → Float → Float → Config
+configOf kind way rate size turn hop count rolloff attack release =
+    record {
+      enabled = true;
+      shape = shapeOf kind;
+      direction = directionOf way;
+      «rate_hz» = rate;
+      «size_octaves» = size;
+      phase = turn;
+      scheduled = true;
+      sync = false;
+      «hop_samples» = hop;
+      partials = count;
+      «partial_rolloff_db» = rolloff;
+      «attack_ms» = attack;
+      «release_ms» = release;
+    }
+
+-- a sample tries each lane at most twice
+unfoldable pub sampledOf : ℕ → ℕ → Float → Bool → SprinkleStream
+sampledOf index lane reference sync = let s = movedOf index lane reference sync in pick (lt reference (s .next)) s (movedOf (s .index) lane reference sync)
