@@ -30,3 +30,4 @@ pub mod Compared
 pub mod Rescaled
 pub mod Spans
 pub mod Again
+pub mod Powers
