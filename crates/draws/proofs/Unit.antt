@@ -12,13 +12,16 @@ use lib.Ieee.{Float, nan, inf, fin, binary32, up, down, ofInt, ofBits, div, lt, 
 use lib.Ieee.Fits.{down-pos}
 use lib.Ieee.Exact.{HasValue, round-exact}
 use lib.Ieee.Back.{round-whole}
+use lib.Ieee.Bits.{is-true}
 use lib.Ieee.Order.{le-of-values}
 use lib.Ieee.Scale.{round-same}
 use borrow.Author.Tests.{lt-ltb}
 use denote.Floats.{passes}
 use Rattle.floats.specs.Word.{product}
 use Rattle.floats.proofs.Order.{lt-values}
+use Rattle.floats.proofs.Rules.{lt→le}
 use Rattle.floats.proofs.Rising.{nought}
+use Rattle.floats.proofs.Mag.{Mag, le-upto}
 use Rattle.draws.specs.Draws.{mixOf, drawnOf, randomOf}
 
 product-lt : (a b : ℕ) → product a b < 2 ^ 64
@@ -67,3 +70,10 @@ under-one x n h v = (
 
 pub random-in : (index stream : ℕ) → T (le nought (randomOf index stream)) × T (lt (randomOf index stream) (fin false 1 (pos 0)))
 random-in index stream = under-one (randomOf index stream) (drawnOf index stream) (drawn-lt index stream) (random-value index stream)
+
+-- the same as a bound
+pub random-mag : (index stream : ℕ) → Mag (randomOf index stream) 1
+random-mag index stream =
+    let draw = randomOf index stream in
+    let h = random-in index stream in
+    le-upto draw (fin false 1 (pos 0)) 1 (h .0) (lt→le draw (fin false 1 (pos 0)) (is-true (lt draw (fin false 1 (pos 0))) (h .1))) (lit≤ tt)

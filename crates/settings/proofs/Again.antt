@@ -3,7 +3,7 @@
 use Prim.Native.Nat.{ℕ}
 use mathlib.Core.Path.{_≡_, refl, sym, ap, _∙_}
 use mathlib.Core.Bool.{Bool, true, false, cond, _||_, true≢false}
-use lib.IntN.{pos, negsuc}
+use lib.IntN.{negsuc}
 use lib.Dec.{T, ltb}
 use lib.Ieee.{Float, fin, binary32, ofBits, rem, add, sum, round, lt, le, eq, fits}
 use lib.Ieee.Fits.{cond-fits}

@@ -1,21 +1,21 @@
 -- A stage x of at most 5 and one r of at least 1 / 512, as f32s: their sum is at most 10, and x is a part of it that stays clear of 0 and of 1.
 -- The sum is at least k / 1024, where k is the next but one whole number above 1024 x: that is a float, so rounding does not pass it.
-use Prim.Native.Nat.{ℕ, zero, suc, _+_, _-_, _*_, _/_, _%_, _^_, _≤_, _<_}
-use native.Mathlib.Nat.{le-trans, le-of-eq, le-of-lt, lt-of-lt-of-le, lt-of-le-of-lt, mul-comm, mul-assoc, mul-right-comm, mul-one, mul-pos, zero-mul, add-mul, mul-le-mul-right, mul-le-mul, mul-le-mul-left, le-of-mul-le-mul-right, mul-lt-mul-of-pos-right, mul-mul-mul-comm, div-add-mod', mod-lt}
+use Prim.Native.Nat.{ℕ, _+_, _*_, _/_, _%_, _^_, _≤_, _<_}
+use native.Mathlib.Nat.{le-trans, le-of-eq, lt-of-lt-of-le, lt-of-le-of-lt, mul-comm, mul-assoc, mul-right-comm, mul-pos, zero-mul, add-mul, mul-le-mul-right, mul-le-mul, le-of-mul-le-mul-right, mul-lt-mul-of-pos-right, mul-mul-mul-comm, div-add-mod', mod-lt}
 use native.Mathlib.Omega.{arith}
-use mathlib.Core.Path.{_≡_, refl, sym, ap, _∙_, subst}
+use mathlib.Core.Path.{_≡_, sym, ap, _∙_}
 use mathlib.Core.Bool.{true, false, true≢false}
-use lib.IntN.{ℤ, pos, negsuc}
+use lib.IntN.{ℤ}
 use lib.Dec.{T, eqb, eqb→eq, lit≤, lit<}
 use lib.Pow.{pow-pos, pow-add, pow-mono}
 use lib.Ieee.{Float, nan, inf, fin, binary32, up, down, ofBits, round, add, sum, div, lt, le, eq, fits}
-use lib.Ieee.Fits.{down-pos, round-fits, div-fits}
+use lib.Ieee.Fits.{down-pos, round-fits}
 use lib.Ieee.Exact.{HasValue, round-exact}
 use lib.Ieee.Order.{round-mono}
 use denote.Floats.{passes}
 use Rattle.lists.specs.Pick.{by-case}
 use Rattle.floats.specs.Names.{add32, div32}
-use Rattle.floats.proofs.Mag.{Mag, Upto, Least, least-pos, le-of}
+use Rattle.floats.proofs.Mag.{Upto, Least, le-of}
 use Rattle.floats.proofs.Rising.{nought}
 use Rattle.floats.proofs.Bounds.{add-upto}
 use Rattle.floats.proofs.Spans.{le-lt, lt-le}

@@ -1,24 +1,22 @@
 -- The envelope of every mended config, for a lawful hop and a lawful rate: the lifetime is finite, above 0 and at most 10 seconds, and the attack lies strictly between 0 and 1.
-use Prim.Native.Nat.{ℕ, _*_, _%_, _≤_}
-use mathlib.Core.Path.{_≡_, refl}
-use mathlib.Core.Bool.{Bool, true, false, not}
+use Prim.Native.Nat.{ℕ, _%_, _≤_}
 use lib.IntN.{pos}
 use lib.Dec.{T, eqb, lit≤, lit<}
-use lib.Ieee.{Float, nan, inf, fin, binary32, ofBits, lt, le, eq, fits, isNan}
+use lib.Ieee.{Float, binary32, ofBits, lt, le, eq, fits, isNan}
 use lib.Ieee.Scale.{finite}
-use lib.Ieee.Bits.{is-true, is-false, ofBits-fits}
-use Rattle.lists.specs.Pick.{pick, either}
+use lib.Ieee.Bits.{is-false, ofBits-fits}
+use Rattle.lists.specs.Pick.{either}
 use Rattle.floats.specs.Names.{f32, add32, sub32, mul32, div32}
 use Rattle.floats.specs.Choose.{max, clamp}
-use Rattle.floats.proofs.Rules.{finite-number, le-trans, lt→le, between-finite}
+use Rattle.floats.proofs.Rules.{finite-number, le-trans, between-finite}
 use Rattle.floats.proofs.Rising.{nought}
 use Rattle.floats.proofs.Choosing as choosing
 use Rattle.floats.proofs.Mag.{Mag, Upto, Least, upto-mag, mag-finite, mag-more, mag-le, least-up, le-upto}
-use Rattle.floats.proofs.Bounds.{max-mag, max-upto, add-upto, add-mag, sub-mag, mul-mag, div-mag}
+use Rattle.floats.proofs.Bounds.{max-upto, add-upto, add-mag, sub-mag, mul-mag, div-mag}
 use Rattle.floats.proofs.Held.{clamp-mag, clamp-least}
-use Rattle.floats.proofs.Spans.{least-number, least-above, least-upto, max-least-left}
+use Rattle.floats.proofs.Spans.{least-above, max-least-left}
 use Rattle.draws.specs.Draws.{randomOf}
-use Rattle.draws.proofs.Unit.{random-in}
+use Rattle.draws.proofs.Unit.{random-mag}
 use Rattle.elementary.specs.Sqrt.{sqrtOf}
 use Rattle.elementary.proofs.RootRises.{lowest, lowest-root, highest, highest-root, sqrt-window, sqrt-finite}
 use Rattle.settings.specs.declared.Config.{Config}
@@ -108,11 +106,6 @@ module _ (x a b : Float) (p : T (fits binary32 x)) (q : T (fits binary32 a)) (r 
   root-least : Least (sqrtOf y) 16
   root-least = least-up lowest-root (sqrtOf y) 16 6 (sqrt-window y y-fits low high .0) (lit≤ tt) root-mag
 
-draw-mag : (index stream : ℕ) → Mag (randomOf index stream) 1
-draw-mag index stream =
-    let h = random-in index stream in
-    le-upto (randomOf index stream) (fin false 1 (pos 0)) 1 (h .0) (lt→le (randomOf index stream) (fin false 1 (pos 0)) (is-true (lt (randomOf index stream) (fin false 1 (pos 0))) (h .1))) (lit≤ tt)
-
 variation-mag : (index : ℕ) → Mag (variationOf index) 4
 unfolding variationOf ofBits
 variation-mag index =
@@ -120,7 +113,7 @@ variation-mag index =
     let d1 = mul32 two draw in
     let d2 = sub32 d1 one in
     let d3 = mul32 (f32 0x3e19999a) d2 in
-    let m1 = mul-mag binary32 two draw 2 1 (lit≤ tt) (lit≤ tt) (draw-mag index 3) in
+    let m1 = mul-mag binary32 two draw 2 1 (lit≤ tt) (lit≤ tt) (random-mag index 3) in
     let m2 = sub-mag binary32 d1 one 2 1 (lit≤ tt) m1 (lit≤ tt) in
     let m3 = mul-mag binary32 (f32 0x3e19999a) d2 1 3 (lit≤ tt) (lit≤ tt) m2 in
     add-mag binary32 one d3 1 3 (lit≤ tt) (lit≤ tt) m3

@@ -1,21 +1,20 @@
 -- Bounds of Sprinkle's stages and of the hop's floor: each at most 5 seconds, and a stage at least 1 / 500.
-use Prim.Native.Nat.{ℕ, _+_, _*_, _^_, _≤_, _<_}
+use Prim.Native.Nat.{ℕ, _*_, _^_, _≤_, _<_}
 use native.Mathlib.Nat.{le-trans, le-of-eq, mul-comm, mul-assoc, mul-one, mul-pos, zero-mul, mul-le-mul-right}
 use native.Mathlib.Omega.{arith}
 use mathlib.Core.Path.{_≡_, refl, sym, ap, _∙_}
 use mathlib.Core.Bool.{Bool, true, false}
-use lib.IntN.{ℤ, pos}
+use lib.IntN.{pos}
 use lib.Dec.{T, eqb, eqb→eq, lit≤}
 use lib.Pow.{pow-pos}
 use lib.Ieee.{Float, nan, inf, fin, binary32, up, down, ofBits, ofInt, mul, div, round, lt, le, eq, unlike}
 use lib.Ieee.Fits.{down-pos, and-l, and-r}
 use lib.Ieee.Exact.{HasValue}
-use lib.Ieee.Scale.{finite}
 use denote.Floats.{passes}
 use Rattle.lists.specs.Pick.{by-case}
 use Rattle.floats.specs.Names.{f32, mul32, div32, sub32}
 use Rattle.floats.specs.Choose.{max}
-use Rattle.floats.proofs.Mag.{Mag, Upto, Least, upto-mag, round-mag, round-upto, within-upto, le-of}
+use Rattle.floats.proofs.Mag.{Mag, Upto, Least, round-mag, round-upto, le-of}
 use Rattle.floats.proofs.Bounds.{max-mag, mul-upto, of-upto, apart-mag}
 use Rattle.floats.proofs.Held.{max-least}
 use Rattle.floats.proofs.Spans.{least-upto, max-least-left}

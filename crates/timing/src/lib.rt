@@ -152,10 +152,8 @@ fn larger(a: u64, b: u64) -> u64
 pub fn move_on(stream: SprinkleStream, lane: usize, reference: f64, sync: bool) -> SprinkleStream
     ensures { λ r. ⌜ r ≡ movedOf (stream .index) lane reference sync ⌝ }
 {
-    let index = larger(
-        std::num::wrapping_add_u64(stream.index, 1),
-        group(reference),
-    );
+    let after = std::num::wrapping_add_u64(stream.index, 1);
+    let index = larger(after, group(reference));
     at(index, lane, sync)
 }
 
