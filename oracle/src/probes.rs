@@ -2,6 +2,7 @@
 //! and the Rust that it must equal bit for bit. A later layer adds its rows here.
 use crate::bits::Bits;
 use crate::field::Settings;
+use crate::gen::values::settings as plain;
 use crate::original::open;
 use crate::ours::Choose;
 
@@ -13,23 +14,6 @@ pub struct Probe {
     pub rust: fn(&[u64]) -> Option<u64>,
     pub port: fn(&[u64]) -> u64,
 }
-
-/// The settings of a new engine.
-const PLAIN: Settings = Settings {
-    enabled: true,
-    shape: 0,
-    direction: 0,
-    rate_hz: 1.0,
-    size_octaves: 1.0,
-    phase: 0.0,
-    scheduled: true,
-    sync: false,
-    hop_samples: 0,
-    partials: 1,
-    partial_rolloff_db: 6.0,
-    attack_ms: 0.0,
-    release_ms: 70.0,
-};
 
 fn settings(
     kind: u32,
@@ -48,7 +32,7 @@ fn settings(
         hop_samples: hop,
         attack_ms: attack,
         release_ms: release,
-        ..PLAIN
+        ..plain()
     }
 }
 
@@ -63,6 +47,7 @@ macro_rules! probes {
         }
 
         #[cfg(not(probed))]
+        #[allow(clippy::too_many_arguments)]
         mod absent {
             $(pub unsafe fn $foreign($(_: $t),*) -> $r {
                 unreachable!("no probe is called where the archive is absent")
@@ -125,13 +110,13 @@ probes! {
     mix rk_probe_mix(x: u64) -> u64 => open::mix(x);
     random rk_probe_random(index: u64, stream: u64) -> f32 => open::random(index, stream);
     sprinkle_key rk_probe_sprinkle_key(lane: u64, index: u64) -> u64 => open::sprinkle_key(lane as usize, index);
-    mended_rate rk_probe_mended_rate(x: f32) -> f32 => open::mended(&Settings { rate_hz: x, ..PLAIN }).rate_hz;
-    mended_size rk_probe_mended_size(x: f32) -> f32 => open::mended(&Settings { size_octaves: x, ..PLAIN }).size_octaves;
-    mended_phase rk_probe_mended_phase(x: f32) -> f32 => open::mended(&Settings { phase: x, ..PLAIN }).phase;
-    mended_rolloff rk_probe_mended_rolloff(x: f32) -> f32 => open::mended(&Settings { partial_rolloff_db: x, ..PLAIN }).partial_rolloff_db;
-    mended_attack rk_probe_mended_attack(x: f32) -> f32 => open::mended(&Settings { attack_ms: x, ..PLAIN }).attack_ms;
-    mended_release rk_probe_mended_release(x: f32) -> f32 => open::mended(&Settings { release_ms: x, ..PLAIN }).release_ms;
-    mended_partials rk_probe_mended_partials(n: u32) -> u64 => open::mended(&Settings { partials: n, ..PLAIN }).partials.into();
+    mended_rate rk_probe_mended_rate(x: f32) -> f32 => open::mended(&Settings { rate_hz: x, ..plain() }).rate_hz;
+    mended_size rk_probe_mended_size(x: f32) -> f32 => open::mended(&Settings { size_octaves: x, ..plain() }).size_octaves;
+    mended_phase rk_probe_mended_phase(x: f32) -> f32 => open::mended(&Settings { phase: x, ..plain() }).phase;
+    mended_rolloff rk_probe_mended_rolloff(x: f32) -> f32 => open::mended(&Settings { partial_rolloff_db: x, ..plain() }).partial_rolloff_db;
+    mended_attack rk_probe_mended_attack(x: f32) -> f32 => open::mended(&Settings { attack_ms: x, ..plain() }).attack_ms;
+    mended_release rk_probe_mended_release(x: f32) -> f32 => open::mended(&Settings { release_ms: x, ..plain() }).release_ms;
+    mended_partials rk_probe_mended_partials(n: u32) -> u64 => open::mended(&Settings { partials: n, ..plain() }).partials.into();
     lifetime rk_probe_lifetime(kind: u32, way: u32, rate: f32, size: f32, hop: u32, attack: f32, release: f32, index: u64, sample_rate: f32) -> f32,
         if sample_rate.is_finite() && sample_rate > 0.0
         => open::envelope(&settings(kind, way, rate, size, hop, attack, release), index, sample_rate).0;

@@ -4,6 +4,9 @@
 //!
 //!     rustc -O tests/vectors/draws.rs -o target/draws && target/draws > crates/draws_vectors/stdin
 
+#[path = "shared/line.rs"]
+mod line;
+
 /// What SplitMix64 adds to its state before each output.
 const STEP: u64 = 0x9e37_79b9_7f4a_7c15;
 
@@ -36,27 +39,22 @@ fn answered(name: &str) -> impl Iterator<Item = (Vec<&'static str>, &'static str
     })
 }
 
-fn line(number: u8, name: &str, operands: [u64; 3], answer: u64) {
-    let [a, b, c] = operands;
-    println!("{number:02x} {name:<12} {a:016x} {b:016x} {c:016x} {answer:016x}");
-}
-
 fn main() {
     for (seed, outputs) in [(0u64, SEED_0), (1234567, SEED_1234567)] {
         let mut state = seed;
         for output in outputs {
             state = state.wrapping_add(STEP);
-            line(0, "mix", [state, 0, 0], output);
+            line::print(0, "mix", [state, 0, 0], output);
         }
     }
-    line(0, "mix", [0, 0, 0], 0);
-    line(1, "sprinkle_key", [2, 5, 0], (1 << 62) + (1 << 60) + 5);
+    line::print(0, "mix", [0, 0, 0], 0);
+    line::print(1, "sprinkle_key", [2, 5, 0], (1 << 62) + (1 << 60) + 5);
     let whole = |number: &str| number.parse::<u64>().unwrap();
     for (operands, answer) in answered("mix") {
-        line(0, "mix", [whole(operands[0]), 0, 0], whole(answer));
+        line::print(0, "mix", [whole(operands[0]), 0, 0], whole(answer));
     }
     for (operands, answer) in answered("sprinkle_key") {
-        line(
+        line::print(
             1,
             "sprinkle_key",
             [whole(operands[0]), whole(operands[1]), 0],
@@ -65,7 +63,7 @@ fn main() {
     }
     for (operands, answer) in answered("random") {
         let bits = u64::from_str_radix(answer, 16).unwrap();
-        line(
+        line::print(
             2,
             "random",
             [whole(operands[0]), whole(operands[1]), 0],

@@ -3,10 +3,13 @@
 //! bench/src/reference.rs, which shares nothing with the proved code.
 //!
 //!     rustc -O tests/vectors/elementary.rs -o target/elementary && target/elementary > crates/elementary_vectors/stdin
+#[path = "shared/line.rs"]
+mod line;
 #[path = "../../bench/src/reference.rs"]
 mod reference;
 #[path = "../../bench/src/tables.rs"]
 mod tables;
+use line::{bits32, bits64};
 
 const RANDOM: usize = 200;
 
@@ -23,22 +26,6 @@ impl Random {
     /// From `from` to `to`.
     fn between(&mut self, from: f64, to: f64) -> f64 {
         from + (to - from) * (self.next() >> 11) as f64 / 9007199254740992.0
-    }
-}
-
-fn bits32(x: f32) -> u64 {
-    if x.is_nan() {
-        0x7fc0_0000
-    } else {
-        x.to_bits() as u64
-    }
-}
-
-fn bits64(x: f64) -> u64 {
-    if x.is_nan() {
-        0x7ff8_0000_0000_0000
-    } else {
-        x.to_bits()
     }
 }
 
@@ -165,13 +152,6 @@ fn levels(random: &mut Random) -> Vec<f32> {
     v
 }
 
-fn line(number: u8, name: &str, argument: u64, answer: u64) {
-    println!(
-        "{number:02x} {name:<12} {argument:016x} {:016x} {:016x} {answer:016x}",
-        0, 0
-    );
-}
-
 fn main() {
     let random = &mut Random(2026);
     let lists: [(&str, fn(f32) -> f32, Vec<f32>); 7] = [
@@ -193,10 +173,10 @@ fn main() {
     ];
     for (number, (name, f, arguments)) in lists.into_iter().enumerate() {
         for x in arguments {
-            line(number as u8, name, bits32(x), bits32(f(x)));
+            line::print(number as u8, name, [bits32(x), 0, 0], bits32(f(x)));
         }
     }
     for x in exponents64(random) {
-        line(7, "exp64", bits64(x), bits64(reference::exp64(x)));
+        line::print(7, "exp64", [bits64(x), 0, 0], bits64(reference::exp64(x)));
     }
 }

@@ -1,24 +1,11 @@
 //! Prints the stored cases of `floats_vectors`: each operation on its edges, with the answer of
-//! Rust's own operation. A line is the operation's number, its name, three operands and the answer,
-//! all in hexadecimal; a float stands as its bits, every NaN as one pattern.
+//! Rust's own operation.
 //!
 //!     rustc -O tests/vectors/floats.rs -o target/floats && target/floats > crates/floats_vectors/stdin
 
-fn bits32(x: f32) -> u64 {
-    if x.is_nan() {
-        0x7fc0_0000
-    } else {
-        x.to_bits() as u64
-    }
-}
-
-fn bits64(x: f64) -> u64 {
-    if x.is_nan() {
-        0x7ff8_0000_0000_0000
-    } else {
-        x.to_bits()
-    }
-}
+#[path = "shared/line.rs"]
+mod line;
+use line::{bits32, bits64};
 
 /// Rust leaves open which of two zeros `max` and `min` give: the first, as the port has it.
 fn first_zero32(x: f32, y: f32, other: f32) -> f32 {
@@ -322,10 +309,7 @@ struct List {
 impl List {
     fn add(&mut self, name: &str, cases: Vec<([u64; 3], u64)>) {
         for (o, answer) in cases {
-            println!(
-                "{:02x} {:<12} {:016x} {:016x} {:016x} {:016x}",
-                self.next, name, o[0], o[1], o[2], answer
-            );
+            line::print(self.next, name, o, answer);
         }
         self.next += 1;
     }
