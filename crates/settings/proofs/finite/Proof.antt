@@ -12,7 +12,7 @@ pick32-requires c κs = search needs
 
 returns : tie.Need-returns
 unfolding finiteOr
-returns c = cc
+returns c = rw (c .pick32 .ensures, c .before .is-finite32 .ensures)
 
 pub finite-spec : {M : Type 1} → statement M
 finite-spec = tie.close (tie.spec is-finite32-requires pick32-requires returns)

@@ -45,7 +45,7 @@ rem-euclid32-requires c κs = search needs
 
 returns : tie.Need-returns
 unfolding mendedOf heldTo phaseOf
-returns c = cc
+returns c = rw (c .rem-euclid32 .ensures, c .before .finite6 .ensures, c .before .before .clamp325 .ensures, c .before .before .before .finite5 .ensures, c .before .before .before .before .clamp324 .ensures, c .before .before .before .before .before .finite4 .ensures, c .before .before .before .before .before .before .clamp323 .ensures, c .before .before .before .before .before .before .before .finite3 .ensures, c .before .before .before .before .before .before .before .before .partials .ensures, c .before .before .before .before .before .before .before .before .before .clamp322 .ensures, c .before .before .before .before .before .before .before .before .before .before .finite2 .ensures, c .before .before .before .before .before .before .before .before .before .before .before .clamp32 .ensures, c .before .before .before .before .before .before .before .before .before .before .before .before .finite .ensures)
 
 pub mended-spec : {M : Type 1} → statement M
 mended-spec =

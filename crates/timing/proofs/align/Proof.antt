@@ -18,7 +18,7 @@ skip-requires-2 c κs = search needs
 
 returns : tie.Need-returns
 unfolding alignedOf
-returns c = cc
+returns c = rw (c .skip2 .ensures, c .before .skip .ensures, c .before .before .at .ensures, c .before .before .before .group .ensures)
 
 pub align-spec : {M : Type 1} → statement M
 align-spec = tie.close (tie.spec group-requires at-requires skip-requires skip-requires-2 returns)

@@ -15,7 +15,7 @@ align-requires-3 c κs = search needs
 
 returns : tie.Need-returns
 unfolding alignedAll
-returns c = cc
+returns c = rw (c .align3 .ensures, c .before .align2 .ensures, c .before .before .align .ensures)
 
 pub align-streams-spec : {M : Type 1} → statement M
 align-streams-spec = tie.close (tie.spec align-requires align-requires-2 align-requires-3 returns)

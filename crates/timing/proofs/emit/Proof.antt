@@ -12,7 +12,7 @@ count-requires c κs = search needs
 
 returns : tie.Need-returns
 unfolding emitOf
-returns c = cc
+returns c = rw (c .count .ensures, c .before .random .ensures)
 
 pub emit-spec : {M : Type 1} → statement M
 emit-spec = tie.close (tie.spec random-requires count-requires returns)

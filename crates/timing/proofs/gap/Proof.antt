@@ -18,7 +18,7 @@ f32-to-f64-requires c κs = search needs
 
 returns : tie.Need-returns
 unfolding gapOf
-returns c = cc
+returns c = rw (c .f32-to-f64 .ensures, c .before .floor32 .ensures, c .before .before .random .ensures, c .before .before .before .wrapping-add-u64 .ensures)
 
 pub gap-spec : {M : Type 1} → statement M
 gap-spec =

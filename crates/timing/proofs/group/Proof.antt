@@ -18,7 +18,7 @@ wrapping-mul-requires c κs = search needs
 
 returns : tie.Need-returns
 unfolding groupOf
-returns c = cc
+returns c = rw (c .wrapping-mul .ensures, c .before .f64-to-u64 .ensures, c .before .before .max64 .ensures, c .before .before .before .floor64 .ensures)
 
 pub group-spec : {M : Type 1} → statement M
 group-spec =

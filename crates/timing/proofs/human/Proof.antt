@@ -15,7 +15,7 @@ pick64-requires c κs = search needs
 
 returns : tie.Need-returns
 unfolding humanOf
-returns c = cc
+returns c = rw (c .pick64 .ensures, c .before .f32-to-f64 .ensures, c .before .before .random .ensures)
 
 pub human-spec : {M : Type 1} → statement M
 human-spec = tie.close (tie.spec random-requires f32-to-f64-requires pick64-requires returns)

@@ -18,7 +18,7 @@ at-requires c κs = search needs
 
 returns : tie.Need-returns
 unfolding movedOf
-returns c = cc
+returns c = rw (c .at .ensures, c .before .larger .ensures, c .before .before .group .ensures, c .before .before .before .wrapping-add-u64 .ensures)
 
 pub move-on-spec : {M : Type 1} → statement M
 move-on-spec =

@@ -9,7 +9,7 @@ at-requires c κs = search needs
 
 returns : tie.Need-returns
 unfolding newOf
-returns c = cc
+returns c = rw (c .at .ensures)
 
 pub new-stream-spec : {M : Type 1} → statement M
 new-stream-spec = tie.close (tie.spec at-requires returns)

@@ -21,7 +21,7 @@ human-requires c κs = search needs
 
 returns : tie.Need-returns
 unfolding nextOf
-returns c = cc
+returns c = rw (c .human .ensures, c .before .gap .ensures, c .before .before .start .ensures, c .before .before .before .nearest-u64-to-f642 .ensures, c .before .before .before .before .nearest-u64-to-f64 .ensures)
 
 pub next-spec : {M : Type 1} → statement M
 next-spec =

@@ -18,7 +18,7 @@ emit-requires c κs = search needs
 
 returns : tie.Need-returns
 unfolding preparedOf
-returns c = cc
+returns c = rw (c .emit .ensures, c .before .next .ensures, c .before .before .sprinkle-key .ensures)
 
 pub prepare-spec : {M : Type 1} → statement M
 prepare-spec =

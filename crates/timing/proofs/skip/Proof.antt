@@ -1,6 +1,6 @@
 -- `skip` meets its contract: one test.
+use Rattle.lists.specs.Pick.{picked, passed}
 use Rattle.timing.specs.Streams.{skippedOf}
-use Rattle.lists.specs.Pick.{took, cases}
 use borrow.Author.Needs.{needs}
 use Rattle.timing.proofs.skip.Statement.{statement}
 use Rattle.timing.proofs.skip.Tie as tie
@@ -13,11 +13,11 @@ at-requires c κs = search needs
 
 returns : tie.Need-returns
 unfolding skippedOf
-returns c = took _ _ _ _ (search needs) cc
+returns c = rw (c .at .ensures, c .before .wrapping-add-u64 .ensures) (picked _ _ _ (c .before .before .if1 .taken))
 
 returns-2 : tie.Need-returns-2
 unfolding skippedOf
-returns-2 c = search (needs, cases)
+returns-2 c = passed _ _ _ (c .if1 .left)
 
 pub skip-spec : {M : Type 1} → statement M
 skip-spec = tie.close (tie.spec wrapping-add-u64-requires at-requires returns returns-2)

@@ -15,7 +15,7 @@ f32-to-f64-requires c κs = search needs
 
 returns : tie.Need-returns
 unfolding startOf
-returns c = cc
+returns c = rw (c .f32-to-f64 .ensures, c .before .floor32 .ensures, c .before .before .random .ensures)
 
 pub start-spec : {M : Type 1} → statement M
 start-spec = tie.close (tie.spec random-requires floor32-requires f32-to-f64-requires returns)

@@ -15,7 +15,7 @@ f32-to-f64-requires c κs = search needs
 
 returns : tie.Need-returns
 unfolding referenceOf
-returns c = cc
+returns c = rw (c .f32-to-f64 .ensures, c .before .nearest-u64-to-f64 .ensures, c .before .before .random .ensures)
 
 pub timing-reference-spec : {M : Type 1} → statement M
 timing-reference-spec =

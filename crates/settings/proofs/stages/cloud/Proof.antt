@@ -12,7 +12,7 @@ cloud-attack-requires c κs = search needs
 
 returns : tie.Need-returns
 unfolding cloudOf
-returns c = cc
+returns c = rw (c .cloud-attack .ensures, c .before .cloud-lifetime .ensures)
 
 pub cloud-spec : {M : Type 1} → statement M
 cloud-spec = tie.close (tie.spec cloud-lifetime-requires cloud-attack-requires returns)

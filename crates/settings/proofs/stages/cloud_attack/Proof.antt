@@ -1,5 +1,6 @@
 -- `cloud_attack` meets its contract: a case for each direction, and the index's parity.
-use Rattle.lists.specs.Pick.{cases}
+use Rattle.lists.specs.Pick.{picked, passed}
+use borrow.Author.Tests.{eq-eqb, ne-eqb}
 use Rattle.settings.specs.Envelope.{cloudAttackOf}
 use borrow.Author.Needs.{needs}
 use Rattle.settings.proofs.stages.cloud_attack.Statement.{statement}
@@ -24,11 +25,11 @@ returns-2 c = rw (c .enum-told2 .given .1)
 
 returns-3 : tie.Need-returns-3
 unfolding cloudAttackOf
-returns-3 c = rw (c .before .enum-told3 .given .1) (search (needs, cases))
+returns-3 c = rw (c .before .enum-told3 .given .1) (picked _ _ _ (eq-eqb _ _ (c .if1 .taken)))
 
 returns-4 : tie.Need-returns-4
 unfolding cloudAttackOf
-returns-4 c = rw (c .before .enum-told3 .given .1) (search (needs, cases))
+returns-4 c = rw (c .before .enum-told3 .given .1) (passed _ _ _ (ne-eqb _ _ (c .if1 .left)))
 
 pub cloud-attack-spec : {M : Type 1} → statement M
 cloud-attack-spec =

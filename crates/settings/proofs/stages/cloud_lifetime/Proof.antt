@@ -18,7 +18,7 @@ clamp32-requires c κs = search needs
 
 returns : tie.Need-returns
 unfolding cloudLifetimeOf
-returns c = cc
+returns c = rw (c .clamp32 .ensures, c .before .max322 .ensures, c .before .before .raw .ensures, c .before .before .before .max32 .ensures)
 
 pub cloud-lifetime-spec : {M : Type 1} → statement M
 cloud-lifetime-spec =

@@ -9,7 +9,7 @@ u64-to-f32-requires c κs = search needs
 
 returns : tie.Need-returns
 unfolding hopFloorOf
-returns c = cc
+returns c = rw (c .u64-to-f32 .ensures)
 
 pub hop-floor-spec : {M : Type 1} → statement M
 hop-floor-spec = tie.close (tie.spec u64-to-f32-requires returns)

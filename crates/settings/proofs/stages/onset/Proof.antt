@@ -9,7 +9,7 @@ max32-requires c κs = search needs
 
 returns : tie.Need-returns
 unfolding onsetOf
-returns c = cc
+returns c = rw (c .max32 .ensures)
 
 pub onset-spec : {M : Type 1} → statement M
 onset-spec = tie.close (tie.spec max32-requires returns)

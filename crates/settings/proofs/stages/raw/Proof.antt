@@ -15,7 +15,7 @@ sqrt-requires-2 c κs = search needs
 
 returns : tie.Need-returns
 unfolding rawOf variationOf
-returns c = cc
+returns c = rw (c .sqrt2 .ensures, c .before .sqrt .ensures, c .before .before .random .ensures)
 
 pub raw-spec : {M : Type 1} → statement M
 raw-spec = tie.close (tie.spec random-requires sqrt-requires sqrt-requires-2 returns)

@@ -12,7 +12,7 @@ max32-requires-2 c κs = search needs
 
 returns : tie.Need-returns
 unfolding releaseOf
-returns c = cc
+returns c = rw (c .max322 .ensures, c .before .max32 .ensures)
 
 pub release-spec : {M : Type 1} → statement M
 release-spec = tie.close (tie.spec max32-requires max32-requires-2 returns)

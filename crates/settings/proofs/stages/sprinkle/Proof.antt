@@ -12,7 +12,7 @@ release-requires c κs = search needs
 
 returns : tie.Need-returns
 unfolding sprinkleOf
-returns c = cc
+returns c = rw (c .release .ensures, c .before .onset .ensures)
 
 pub sprinkle-spec : {M : Type 1} → statement M
 sprinkle-spec = tie.close (tie.spec onset-requires release-requires returns)
