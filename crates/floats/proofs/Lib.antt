@@ -34,3 +34,4 @@ pub mod Halves
 pub mod Through
 pub mod Spans
 pub mod Again
+pub mod Products

@@ -112,3 +112,10 @@ module _ {index count : ℕ} {weights : List Float} {slot : ℕ} {left : List Fl
   pub drawn-all : count ≤ slot → selected ≡ drawnFrom index count 0 weights (0 ∷ 0 ∷ 0 ∷ [])
   unfolding drawnFrom
   drawn-all h = let n : count - slot ≡ 0 = omega arith in sym (m .is ∙ ap (λ (k : ℕ). drawnFrom index k slot left selected) n)
+
+-- three picks, however many are drawn
+pub length-drawn : (index n slot : ℕ) (weights : List Float) (selected : List ℕ) → length (drawnFrom index n slot weights selected) ≡ length selected
+unfolding drawnFrom
+length-drawn index zero slot weights selected = refl
+length-drawn index (suc n) slot weights selected =
+    either (λ (r : List ℕ). length r ≡ length selected) (le (sumOf weights) nil) _ _ refl (length-drawn index n (suc slot) _ _ ∙ length-set selected slot _)
