@@ -35,3 +35,4 @@ pub mod Through
 pub mod Spans
 pub mod Again
 pub mod Powers
+pub mod Products

@@ -1,0 +1,5 @@
+pub mod Logs
+pub mod Walks
+pub mod Ranges
+pub mod Picks
+pub mod Harmonics

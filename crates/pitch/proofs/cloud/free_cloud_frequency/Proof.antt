@@ -1,0 +1,59 @@
+-- `free_cloud_frequency` meets its contract: the callees' answers, put together.
+use Rattle.pitch.specs.Cloud.{lowerOf, frequencyOf}
+use borrow.Author.Needs.{needs}
+use Rattle.pitch.proofs.cloud.free_cloud_frequency.Statement.{statement}
+use Rattle.pitch.proofs.cloud.free_cloud_frequency.Tie as tie
+
+min32-requires : tie.Need-min32-requires
+min32-requires c κs = search needs
+
+log2-requires : tie.Need-log2-requires
+log2-requires c κs = search needs
+
+log2-requires-2 : tie.Need-log2-requires-2
+log2-requires-2 c κs = search needs
+
+ramp-requires : tie.Need-ramp-requires
+ramp-requires c κs = search needs
+
+slope-requires : tie.Need-slope-requires
+slope-requires c κs = search needs
+
+min32-requires-2 : tie.Need-min32-requires-2
+min32-requires-2 c κs = search needs
+
+mass-requires : tie.Need-mass-requires
+mass-requires c κs = search needs
+
+random-requires : tie.Need-random-requires
+random-requires c κs = search needs
+
+max32-requires : tie.Need-max32-requires
+max32-requires c κs = search needs
+
+offset-requires : tie.Need-offset-requires
+offset-requires c κs = search needs
+
+exp2-requires : tie.Need-exp2-requires
+exp2-requires c κs = search needs
+
+returns : tie.Need-returns
+unfolding lowerOf frequencyOf
+returns c = cc
+
+pub free-cloud-frequency-spec : {M : Type 1} → statement M
+free-cloud-frequency-spec =
+    tie.close
+    (tie.spec
+    min32-requires
+    log2-requires
+    log2-requires-2
+    ramp-requires
+    slope-requires
+    min32-requires-2
+    mass-requires
+    random-requires
+    max32-requires
+    offset-requires
+    exp2-requires
+    returns)

@@ -1,0 +1,4 @@
+pub mod Register
+pub mod Cloud
+pub mod Octave
+pub mod Partials

@@ -1,0 +1,35 @@
+// Where a new particle sounds: how often and how strongly a register is chosen, the free Cloud's
+// frequency, Sprinkle's octave, and the harmonics of one particle.
+mod cloud;
+mod octave;
+mod partials;
+mod registers;
+
+pub use cloud::free_cloud_frequency;
+pub use octave::sprinkle_register;
+pub use partials::select_partials;
+pub use registers::register_height;
+pub use registers::register_probability;
+pub use registers::register_strength;
+
+pub const WINDOWS_PER_PARTICLE: usize = 3;
+
+// A draw below the first gives one harmonic, below the second two, else three.
+pub const PARTIAL_COUNT_CUMULATIVE: [f32; 2] = [0.80, 0.97];
+
+// An audible range, so that low registers remain possible.
+pub const PARTICLE_MIN_HZ: f32 = 20.0;
+
+pub const SPRINKLE_MAX_HZ: f32 = 4186.01;
+
+pub const PARTICLE_LOW_OPENING: f32 = 0.1;
+
+pub const PARTICLE_LOW_PROBABILITY: f32 = 0.15;
+
+pub const PARTICLE_FULL_OPENING_HZ: f32 = 440.0;
+
+// Where a note of this root sounds: so many octaves from it, and how strongly.
+pub struct Register {
+    pub octave: f32,
+    pub strength: f32,
+}
