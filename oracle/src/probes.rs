@@ -36,6 +36,15 @@ fn settings(
     }
 }
 
+/// Weights of every kind of float, by a seed.
+fn weights(seed: u64) -> [f32; 24] {
+    std::array::from_fn(|i| f32::from_bits(open::mix(seed.wrapping_add(i as u64)) as u32))
+}
+
+fn packed([first, second, third]: [u8; 3]) -> u32 {
+    u32::from_le_bytes([first, second, third, 0])
+}
+
 /// Whether the archive of the probes is here.
 pub const PROBED: bool = cfg!(probed);
 
@@ -130,4 +139,14 @@ probes! {
     aligned_first rk_probe_aligned_first(reference: f64, sync: bool) -> u64 => open::aligned_index(0, reference, sync);
     aligned_third rk_probe_aligned_third(reference: f64, sync: bool) -> u64 => open::aligned_index(2, reference, sync);
     timing_reference rk_probe_timing_reference(opportunity: u64) -> f64 => open::timing_reference(opportunity);
+    register_height rk_probe_register_height(log_hz: f32) -> f32 => open::register_height(log_hz);
+    register_strength rk_probe_register_strength(log_hz: f32) -> f32 => open::register_strength(log_hz);
+    register_probability rk_probe_register_probability(log_hz: f32) -> f32 => open::register_probability(log_hz);
+    free_cloud_frequency rk_probe_free_cloud_frequency(index: u64, max_hz: f32) -> f32 => open::free_cloud_frequency(index, max_hz);
+    octave rk_probe_octave(index: u64, root_hz: f32, max_hz: f32, way: u32) -> f32
+        => open::sprinkle_register(index, root_hz, max_hz, way.min(2) as u8).0;
+    strength rk_probe_strength(index: u64, root_hz: f32, max_hz: f32, way: u32) -> f32
+        => open::sprinkle_register(index, root_hz, max_hz, way.min(2) as u8).1;
+    select_partials rk_probe_select_partials(index: u64, seed: u64, limit: u64, max_ratio: f32) -> u32
+        => packed(open::select_partials(index, weights(seed), limit as usize, max_ratio));
 }

@@ -1,9 +1,13 @@
--- Settings from plain numbers, and a due stream after one sample. Definitions only.
-use Prim.Native.Nat.{ℕ}
+-- Settings and weights from plain numbers, a due stream after one sample, harmonics as one number. Definitions only.
+use Prim.Native.Nat.{ℕ, _+_, _*_, _%_, _^_}
 use mathlib.Core.Bool.{Bool, true, false}
+use mathlib.Core.List.{List}
 use lib.Dec.{eqb}
-use lib.Ieee.{Float, lt}
+use lib.Ieee.{Float, binary32, ofBits, lt}
+use lib.ListN.{getD}
 use Rattle.lists.specs.Pick.{pick}
+use Rattle.lists.specs.Table.{table}
+use Rattle.draws.specs.Draws.{mixOf}
 use Rattle.settings.specs.declared.Config.{Config}
 use Rattle.settings.specs.declared.Shape.{Shape}
 use Rattle.settings.specs.declared.Shape.the-variants.{Sprinkle, Cloud}
@@ -39,3 +43,14 @@ configOf kind way rate size turn hop count rolloff attack release =
 -- a sample tries each lane at most twice
 unfoldable pub sampledOf : ℕ → ℕ → Float → Bool → SprinkleStream
 sampledOf index lane reference sync = let s = movedOf index lane reference sync in pick (lt reference (s .next)) s (movedOf (s .index) lane reference sync)
+
+-- weights of any kind, by a seed
+unfoldable pub weightOf : ℕ → ℕ → Float
+weightOf seed i = ofBits binary32 (mixOf ((seed + i) % 2 ^ 64) % 4294967296)
+
+unfoldable pub weightsOf : ℕ → List Float
+weightsOf seed = table 24 (weightOf seed)
+
+-- three harmonics as one number
+unfoldable pub packedOf : List ℕ → ℕ
+packedOf picks = getD picks 0 0 + getD picks 1 0 * 256 + getD picks 2 0 * 65536

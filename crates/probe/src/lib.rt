@@ -1,5 +1,4 @@
-// Single layers handed over on numbers, for the comparison with the Rust alone: the float helpers and
-// the draws.
+// Single layers handed over on numbers, for the comparison with the Rust alone.
 ghost use Rattle.draws.specs.Draws.{keyOf, mixOf, randomOf};
 ghost use Rattle.floats.specs.Choose.{max, min, clamp, abs};
 ghost use Rattle.floats.specs.Convert.{convert};
@@ -10,8 +9,13 @@ ghost use Rattle.floats.specs.Word.{product, rotated};
 ghost use lib.Ieee.Scale.{finite};
 ghost use lib.Ieee.{binary32, binary64, ofBits, toBits, ofInt, toUnsigned, rem};
 ghost use lib.IntN.{pos};
+ghost use Prim.Native.Nat.{_<_};
 ghost use mathlib.Core.Path.{_≡_};
-ghost use Rattle.probe.specs.Numbers.{shapeOf, directionOf, configOf, sampledOf};
+ghost use Rattle.probe.specs.Numbers.{shapeOf, directionOf, configOf, sampledOf, weightOf, weightsOf, packedOf};
+ghost use Rattle.pitch.specs.Register.{heightOf, strengthOf, probabilityOf};
+ghost use Rattle.pitch.specs.Cloud.{frequencyOf};
+ghost use Rattle.pitch.specs.Octave.{registerOf};
+ghost use Rattle.pitch.specs.Partials.{partialsOf as partialsBy};
 ghost use Rattle.settings.specs.Mending.{attackOf, releaseMsOf, partialsOf, rolloffOf, rateOf, sizeOf, phaseOf, mendedOf};
 ghost use Rattle.settings.specs.Envelope.{envelopeOf};
 ghost use Rattle.timing.specs.Streams.{preparedOf, alignedOf, referenceOf};
@@ -464,4 +468,88 @@ pub extern "C" fn rk_probe_timing_reference(opportunity: u64) -> f64
     ensures { λ r. ⌜ r ≡ referenceOf opportunity ⌝ }
 {
     timing::timing_reference(opportunity)
+}
+
+#[no_mangle]
+pub extern "C" fn rk_probe_register_height(log_hz: f32) -> f32
+    ensures { λ r. ⌜ r ≡ heightOf «log_hz» ⌝ }
+{
+    pitch::register_height(log_hz)
+}
+
+#[no_mangle]
+pub extern "C" fn rk_probe_register_strength(log_hz: f32) -> f32
+    ensures { λ r. ⌜ r ≡ strengthOf «log_hz» ⌝ }
+{
+    pitch::register_strength(log_hz)
+}
+
+#[no_mangle]
+pub extern "C" fn rk_probe_register_probability(log_hz: f32) -> f32
+    ensures { λ r. ⌜ r ≡ probabilityOf «log_hz» ⌝ }
+{
+    pitch::register_probability(log_hz)
+}
+
+#[no_mangle]
+pub extern "C" fn rk_probe_free_cloud_frequency(index: u64, max_hz: f32) -> f32
+    ensures { λ r. ⌜ r ≡ frequencyOf index «max_hz» ⌝ }
+{
+    pitch::free_cloud_frequency(index, max_hz)
+}
+
+#[no_mangle]
+pub extern "C" fn rk_probe_octave(index: u64, root_hz: f32, max_hz: f32, way: u32) -> f32
+    ensures { λ r. ⌜ r ≡ registerOf index «root_hz» «max_hz» (directionOf way) .octave ⌝ }
+{
+    let register = pitch::sprinkle_register(index, root_hz, max_hz, direction_of(way));
+    register.octave
+}
+
+#[no_mangle]
+pub extern "C" fn rk_probe_strength(index: u64, root_hz: f32, max_hz: f32, way: u32) -> f32
+    ensures { λ r. ⌜ r ≡ registerOf index «root_hz» «max_hz» (directionOf way) .strength ⌝ }
+{
+    let register = pitch::sprinkle_register(index, root_hz, max_hz, direction_of(way));
+    register.strength
+}
+
+fn weight_of(seed: u64, i: u64) -> f32
+    ensures { λ r. ⌜ r ≡ weightOf seed i ⌝ }
+{
+    let word = draws::mix(std::num::wrapping_add_u64(seed, i));
+    floats::of_bits32((word % 4294967296) as u32)
+}
+
+fn weights_of(seed: u64) -> [f32; 24]
+    ensures { λ r. ⌜ r ≡ weightsOf seed ⌝ }
+{
+    let mut weights = [0.0f32; 24];
+    let mut i: usize = 0;
+    while i < 24 {
+        weights[i] = weight_of(seed, i as u64);
+        i = i + 1;
+    }
+    weights
+}
+
+fn wide(x: u8) -> u32
+    ensures { λ r. ⌜ (r ≡ x) × (r < 256) ⌝ }
+{
+    x as u32
+}
+
+fn packed(picks: [u8; 3]) -> u32
+    ensures { λ r. ⌜ r ≡ packedOf picks ⌝ }
+{
+    wide(picks[0]) + wide(picks[1]) * 256 + wide(picks[2]) * 65536
+}
+
+// The harmonics of weights that a seed gives, of every kind of float.
+#[no_mangle]
+pub extern "C" fn rk_probe_select_partials(index: u64, seed: u64, limit: u64, max_ratio: f32) -> u32
+    ensures { λ r. ⌜ r ≡ packedOf (partialsBy index (weightsOf seed) limit «max_ratio») ⌝ }
+{
+    let weights = weights_of(seed);
+    packed(pitch::select_partials(index, weights, limit as usize, max_ratio))
 }
