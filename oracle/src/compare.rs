@@ -87,6 +87,7 @@ pub fn compare(count: u64, out: &mut impl Write) -> io::Result<bool> {
 /// The arguments at which the port differs from the Rust.
 fn probed(probe: &Probe) -> Vec<String> {
     let arguments = Arguments::new(probe.name, (probe.edges)());
+    let arguments = (probe.exact)().into_iter().chain(arguments);
     let compared = arguments.filter_map(|words| Some(((probe.rust)(&words)?, words)));
     let differs = |(want, words): (u64, Vec<u64>)| {
         let got = (probe.port)(&words);

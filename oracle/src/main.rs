@@ -8,6 +8,7 @@ mod digest;
 mod draws;
 mod elementary;
 mod engine;
+mod exact;
 mod field;
 mod gen;
 #[cfg(linked)]

@@ -1,6 +1,7 @@
 //! The list of probes: a single function of the port, `rk_probe_NAME` in the archive `libprobe.a`,
 //! and the Rust that it must equal bit for bit. A later layer adds its rows here.
 use crate::bits::Bits;
+use crate::exact;
 use crate::field::Settings;
 use crate::gen::values::settings as plain;
 use crate::original::open;
@@ -11,6 +12,8 @@ use crate::ours::Choose;
 pub struct Probe {
     pub name: &'static str,
     pub edges: fn() -> Vec<Vec<u64>>,
+    /// Whole lists of arguments that come before all others.
+    pub exact: fn() -> Vec<Vec<u64>>,
     pub rust: fn(&[u64]) -> Option<u64>,
     pub port: fn(&[u64]) -> u64,
 }
@@ -49,7 +52,7 @@ fn packed([first, second, third]: [u8; 3]) -> u32 {
 pub const PROBED: bool = cfg!(probed);
 
 macro_rules! probes {
-    ($($name:ident $foreign:ident ($($x:ident: $t:ty),*) -> $r:ty $(, if $guard:expr)? => $rust:expr;)*) => {
+    ($($name:ident $foreign:ident ($($x:ident: $t:ty),*) -> $r:ty $(, at $exact:expr)? $(, if $guard:expr)? => $rust:expr;)*) => {
         #[cfg(probed)]
         extern "C" {
             $(fn $foreign($($x: $t),*) -> $r;)*
@@ -68,6 +71,10 @@ macro_rules! probes {
         pub const PROBES: &[Probe] = &[$(Probe {
             name: stringify!($name),
             edges: || vec![$(<$t as Bits>::edges()),*],
+            exact: || {
+                let lists: &[fn() -> Vec<Vec<u64>>] = &[$($exact)?];
+                lists.iter().flat_map(|list| list()).collect()
+            },
             rust: |words| {
                 let mut words = words.iter();
                 $(let $x = <$t as Bits>::of(*words.next()?);)*
@@ -143,10 +150,10 @@ probes! {
     register_strength rk_probe_register_strength(log_hz: f32) -> f32 => open::register_strength(log_hz);
     register_probability rk_probe_register_probability(log_hz: f32) -> f32 => open::register_probability(log_hz);
     free_cloud_frequency rk_probe_free_cloud_frequency(index: u64, max_hz: f32) -> f32 => open::free_cloud_frequency(index, max_hz);
-    octave rk_probe_octave(index: u64, root_hz: f32, max_hz: f32, way: u32) -> f32
+    octave rk_probe_octave(index: u64, root_hz: f32, max_hz: f32, way: u32) -> f32, at exact::registers
         => open::sprinkle_register(index, root_hz, max_hz, way.min(2) as u8).0;
-    strength rk_probe_strength(index: u64, root_hz: f32, max_hz: f32, way: u32) -> f32
+    strength rk_probe_strength(index: u64, root_hz: f32, max_hz: f32, way: u32) -> f32, at exact::registers
         => open::sprinkle_register(index, root_hz, max_hz, way.min(2) as u8).1;
-    select_partials rk_probe_select_partials(index: u64, seed: u64, limit: u64, max_ratio: f32) -> u32
+    select_partials rk_probe_select_partials(index: u64, seed: u64, limit: u64, max_ratio: f32) -> u32, at exact::partials
         => packed(open::select_partials(index, weights(seed), limit as usize, max_ratio));
 }

@@ -8,7 +8,7 @@ mod ties;
 pub mod values;
 
 use crate::draws::Draws;
-pub use ties::index_with;
+pub use ties::{index_with, top_of};
 
 pub struct Kind {
     pub name: &'static str,

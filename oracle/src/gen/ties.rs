@@ -29,7 +29,7 @@ fn trigger_with(s: &mut Script, d: &mut Draws, slot: u16, stream: u64, top: u64)
 }
 
 /// A float's place among the 24-bit draws: 0.80 and 0.97 are such places.
-fn top_of(x: f32) -> u64 {
+pub fn top_of(x: f32) -> u64 {
     (x * 16_777_216.0) as u64
 }
 

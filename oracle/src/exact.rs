@@ -1,0 +1,44 @@
+//! Arguments at which a draw or a number lies exactly on a limit: random bits never meet them.
+use crate::draws::Draws;
+use crate::gen::{index_with, top_of};
+use crate::register;
+
+/// The index of a reserved trigger whose octave's walk falls off its end, as the birth has it.
+const FALLS_OFF: u64 = 7_395_516 ^ 1 << 63;
+
+fn word(x: f32) -> u64 {
+    x.to_bits().into()
+}
+
+/// Index, root, top and direction: targets that meet a sum of weights.
+pub fn registers() -> Vec<Vec<u64>> {
+    let mut d = Draws::new(0, "registers");
+    let mut list: Vec<Vec<u64>> = register::ties(&mut d, 2_000)
+        .iter()
+        .map(|tie| vec![tie.index, word(tie.root_hz), word(20_000.0), 0])
+        .collect();
+    for n in 0..20_000_u32 {
+        let root_hz = 20.0 + n as f32 * 0.5;
+        list.push(vec![
+            FALLS_OFF,
+            word(root_hz),
+            word(20_000.0),
+            u64::from(n % 3),
+        ]);
+    }
+    list
+}
+
+/// Index, seed of the weights, limit and ratio: counts drawn at 0.80 and 0.97 and beside them, and
+/// ratios that are harmonics.
+pub fn partials() -> Vec<Vec<u64>> {
+    let mut d = Draws::new(0, "partials");
+    let mut list = Vec::new();
+    for n in 0..6_000_u64 {
+        let limit = [0.80, 0.97][n as usize % 2];
+        let index = index_with(&mut d, 12, top_of(limit) + n / 2 % 3 - 1);
+        let ratio = [25.0, 1.0 + (n % 24) as f32][n as usize / 6 % 2];
+        list.push(vec![index, d.word(), 1 + n % 25, word(ratio)]);
+    }
+    list
+}
