@@ -35,3 +35,5 @@ pub mod Through
 pub mod Spans
 pub mod Again
 pub mod Products
+pub mod Ends
+pub mod Wholes

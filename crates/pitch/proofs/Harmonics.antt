@@ -96,7 +96,7 @@ no-weight index weights limit ratio h =
     none-lawful limit ratio weights _ (picks-lawful index weights limit ratio) (λ p g c. true≢false (sym (h (p - 1) (omega (arith, c .most))) ∙ c .heavy))
 
 -- a ratio limit of 1, or below it
-one-is : asFloat 1 ≡ one
+pub one-is : asFloat 1 ≡ one
 unfolding ofInt round size span climb units odd trailingZeros leadingZeros ofBits ofFields
 one-is = refl
 

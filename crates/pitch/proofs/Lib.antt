@@ -3,3 +3,4 @@ pub mod Walks
 pub mod Ranges
 pub mod Picks
 pub mod Harmonics
+pub mod Octaves
