@@ -1,13 +1,12 @@
 -- Floats that are whole numbers: sums and differences of small ones are exact. A whole number is told by its distance above -1000, so that signs go by themselves.
-use Prim.Native.Nat.{ℕ, zero, suc, _+_, _-_, _*_, _^_, _≤_, _<_}
-use native.Mathlib.Nat.{mul-comm, mul-assoc, mul-right-comm, mul-one, mul-pos, add-mul, mul-sub, mul-le-mul-right, mul-lt-mul-of-pos-right, le-of-mul-le-mul-right, zero-mul}
+use Prim.Native.Nat.{ℕ, _+_, _-_, _*_, _^_, _≤_, _<_}
+use native.Mathlib.Nat.{mul-comm, mul-assoc, mul-one, mul-pos, add-mul, mul-sub, mul-le-mul-right, mul-lt-mul-of-pos-right, le-of-mul-le-mul-right, zero-mul}
 use native.Mathlib.Omega.{arith}
 use mathlib.Core.Path.{_≡_, refl, sym, ap, _∙_, subst}
-use mathlib.Core.Bool.{Bool, true, false, not, cond, _&&_, Bool·beq}
+use mathlib.Core.Bool.{Bool, true, false, not, cond}
 use borrow.Author.Tests.{ltb-true, ltb-false, lt-ltb, le-ltb}
-use lib.IntN.{ℤ, pos}
+use lib.IntN.{pos}
 use lib.Dec.{T, ltb, lit<, le→leb}
-use lib.Pow.{pow-pos}
 use lib.Ieee.{Float, nan, inf, fin, binary32, up, down, round, sum, add, sub, neg, lt, below, fits, ofInt, inFloat, toUnsigned}
 use lib.Ieee.Back.{round-whole, unsigned-back}
 use lib.Ieee.Exact.{HasValue}
@@ -28,10 +27,9 @@ pub record At (x : Float) (k : ℕ) : Type 0 where
 scaled : (m u v w a : ℕ) → m * u * 1 ≡ a * v → m * u * w ≡ a * (v * w)
 scaled m u v w a h = ap (λ (z : ℕ). z * w) (sym (mul-one (m * u)) ∙ h) ∙ mul-assoc a v w
 
--- a sum of fractions over c that are whole numbers
-module _ (s t : Bool) (a b c : ℕ) (C : 0 < c) where
-  over-one : (s : Bool) (k : ℕ) → round binary32 s (k * c) c ≡ round binary32 s k 1
-  over-one s k = round-same binary32 s (k * c) c k 1 C (lit< tt) (mul-one (k * c))
+-- a whole number over 1
+over-one : (c : ℕ) → 0 < c → (s : Bool) (k : ℕ) → round binary32 s (k * c) c ≡ round binary32 s k 1
+over-one c C s k = round-same binary32 s (k * c) c k 1 C (lit< tt) (mul-one (k * c))
 
 sub-mul : (a b c : ℕ) → (a - b) * c ≡ a * c - b * c
 sub-mul a b c = mul-comm (a - b) c ∙ mul-sub c a b ∙ rw (mul-comm c a, mul-comm c b)
@@ -46,14 +44,14 @@ whole-sum false false a b c C l k j p q r =
     record {
       sign = false;
       n = a + b;
-      is = rw (← add-mul a b c, over-one false false a b c C false (a + b)) (round-whole binary32 false (a + b) l);
+      is = rw (← add-mul a b c, over-one c C false (a + b)) (round-whole binary32 false (a + b) l);
       place = omega arith;
     }
 whole-sum true true a b c C l k j p q r =
     record {
       sign = true;
       n = a + b;
-      is = rw (← add-mul a b c, over-one false false a b c C true (a + b)) (round-whole binary32 true (a + b) l);
+      is = rw (← add-mul a b c, over-one c C true (a + b)) (round-whole binary32 true (a + b) l);
       place = omega arith;
     }
 whole-sum false true a b c C l k j p q r =
@@ -65,7 +63,7 @@ whole-sum false true a b c C l k j p q r =
     (record {
       sign = true;
       n = b - a;
-      is = rw (← sub-mul b a c, over-one false false a b c C true (b - a)) (round-whole binary32 true (b - a) (omega arith));
+      is = rw (← sub-mul b a c, over-one c C true (b - a)) (round-whole binary32 true (b - a) (omega arith));
       place = omega arith;
     }))
     (λ z.
@@ -74,7 +72,7 @@ whole-sum false true a b c C l k j p q r =
     (record {
       sign = false;
       n = a - b;
-      is = rw (← sub-mul a b c, over-one false false a b c C false (a - b)) (round-whole binary32 false (a - b) (omega arith));
+      is = rw (← sub-mul a b c, over-one c C false (a - b)) (round-whole binary32 false (a - b) (omega arith));
       place = omega arith;
     })))
 whole-sum true false a b c C l k j p q r =
@@ -86,7 +84,7 @@ whole-sum true false a b c C l k j p q r =
     (record {
       sign = false;
       n = b - a;
-      is = rw (← sub-mul b a c, over-one false false a b c C false (b - a)) (round-whole binary32 false (b - a) (omega arith));
+      is = rw (← sub-mul b a c, over-one c C false (b - a)) (round-whole binary32 false (b - a) (omega arith));
       place = omega arith;
     }))
     (λ z.
@@ -99,7 +97,7 @@ whole-sum true false a b c C l k j p q r =
     (record {
       sign = true;
       n = a - b;
-      is = rw (← sub-mul a b c, over-one false false a b c C true (a - b)) (round-whole binary32 true (a - b) (omega arith));
+      is = rw (← sub-mul a b c, over-one c C true (a - b)) (round-whole binary32 true (a - b) (omega arith));
       place = omega arith;
     }))
     (λ y.
@@ -108,7 +106,7 @@ whole-sum true false a b c C l k j p q r =
     (record {
       sign = false;
       n = a - b;
-      is = rw (← sub-mul a b c, over-one false false a b c C false (a - b)) (round-whole binary32 false (a - b) (omega arith));
+      is = rw (← sub-mul a b c, over-one c C false (a - b)) (round-whole binary32 false (a - b) (omega arith));
       place = omega arith;
     })))))
 

@@ -4,3 +4,5 @@ pub mod Ranges
 pub mod Picks
 pub mod Harmonics
 pub mod Octaves
+pub mod Ramp
+pub mod Frequency

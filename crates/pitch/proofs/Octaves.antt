@@ -1,11 +1,11 @@
 -- Sprinkle's octave for a root above 0 and finite, and any upper frequency: a whole number, at most 256 either way.
-use Prim.Native.Nat.{ℕ, zero, suc, _+_, _-_, _*_, _%_, _^_, _≤_, _<_}
+use Prim.Native.Nat.{ℕ, zero, suc, _+_, _-_, _*_, _≤_, _<_}
 use native.Mathlib.Nat.{le-of-mul-le-mul-right, lt-of-mul-lt-mul-right, add-mul}
 use native.Mathlib.Omega.{arith}
-use mathlib.Core.Path.{_≡_, refl, sym, ap, _∙_, subst}
+use mathlib.Core.Path.{_≡_, refl, sym, subst}
 use mathlib.Core.Bool.{Bool, true, false, not, cond}
 use lib.Count.{leadingZeros, trailingZeros}
-use lib.IntN.{ℤ, pos}
+use lib.IntN.{pos}
 use lib.Dec.{T, lit≤}
 use lib.Ieee.{Float, nan, inf, fin, binary32, up, down, isNan, lt, le, eq, fits, toBits, round, sum, add, sub, neg, mul, ofInt, toUnsigned, ofBits, ofFields, size, span, climb, units, odd}
 use lib.Ieee.Bits.{ofBits-fits}
@@ -14,7 +14,7 @@ use lib.Ieee.Exact.{HasValue}
 use lib.Ieee.Scale.{finite}
 use Rattle.lists.specs.Pick.{by-case, either}
 use Rattle.floats.specs.Names.{f32, add32, sub32, mul32}
-use Rattle.floats.specs.Choose.{max, min}
+use Rattle.floats.specs.Choose.{max}
 use Rattle.floats.specs.Whole.{floor, ceil}
 use Rattle.floats.proofs.Bounds.{sub-mag}
 use Rattle.floats.proofs.Choosing.{max-fits, min-fits, max-right, min-left}
