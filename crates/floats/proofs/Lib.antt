@@ -36,3 +36,5 @@ pub mod Spans
 pub mod Again
 pub mod Powers
 pub mod Products
+pub mod Ends
+pub mod Wholes

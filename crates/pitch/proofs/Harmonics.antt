@@ -2,11 +2,11 @@
 use Prim.Native.Nat.{ℕ, zero, suc, _+_, _-_, _≤_, _<_}
 use native.Mathlib.Omega.{arith}
 use mathlib.Core.Path.{_≡_, refl, sym, ap, _∙_, subst}
-use mathlib.Core.Bool.{Bool, true, false, not, cond, true≢false}
+use mathlib.Core.Bool.{true, false, not, true≢false}
 use mathlib.Core.List.{List, [], _∷_}
 use borrow.Author.Tests.{ltb-true, ltb-false, leb-false, lt-ltb}
 use denote.Floats.{passes}
-use lib.Dec.{T, eqb, leb, ltb}
+use lib.Dec.{T, leb, ltb}
 use lib.ListN.{length, getD}
 use lib.Seq.{ext-getD}
 use lib.Count.{leadingZeros, trailingZeros}
@@ -22,7 +22,7 @@ use Rattle.floats.proofs.Rules.{le-right, le-trans}
 use Rattle.draws.specs.Draws.{randomOf}
 use Rattle.pitch.specs.Register.{nil, one}
 use Rattle.pitch.specs.Octave.{asFloat}
-use Rattle.pitch.specs.Partials.{countOf, keptOf, allowedOf, drawnFrom, drawnOf, partialsOf}
+use Rattle.pitch.specs.Partials.{countOf, keptOf, allowedOf, drawnOf, partialsOf}
 use Rattle.pitch.proofs.Picks.{Drawable, Chosen, chosen-drawn, nil-gone}
 use Rattle.pitch.proofs.Walks.{count-most, length-drawn}
 
@@ -96,7 +96,7 @@ no-weight index weights limit ratio h =
     none-lawful limit ratio weights _ (picks-lawful index weights limit ratio) (λ p g c. true≢false (sym (h (p - 1) (omega (arith, c .most))) ∙ c .heavy))
 
 -- a ratio limit of 1, or below it
-one-is : asFloat 1 ≡ one
+pub one-is : asFloat 1 ≡ one
 unfolding ofInt round size span climb units odd trailingZeros leadingZeros ofBits ofFields
 one-is = refl
 

@@ -1,7 +1,7 @@
 -- The logarithms of 20, 440 / 20 and 440 that the code has as literals are what log2 gives, each by computing it.
 use mathlib.Core.Path.{_≡_, refl}
 use lib.Count.{leadingZeros, trailingZeros}
-use lib.Ieee.{Float, isNan, lt, eq, toBits, round, sum, add, sub, neg, mul, div, ofInt, ofBits, ofFields, size, span, climb, units, odd}
+use lib.Ieee.{isNan, lt, eq, toBits, round, sum, add, sub, neg, mul, div, ofInt, ofBits, ofFields, size, span, climb, units, odd}
 use Rattle.floats.specs.Names.{f32, div32}
 use Rattle.elementary.specs.Rung.{rungOf, digitsOf}
 use Rattle.elementary.specs.Log2.{tops, topOf, slopes, slopeOf, bends, bendOf, fallOf, cellOf, fractionOf, joinedOf, logOf, log2Of}

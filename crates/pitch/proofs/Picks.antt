@@ -1,6 +1,5 @@
 -- What the drawn harmonics are: each is one whose weight is positive (or NaN) and still there, so no two are the same.
 use Prim.Native.Nat.{ℕ, zero, suc, _+_, _-_, _≤_, _<_}
-use native.Mathlib.Nat.{le-of-suc-le-suc}
 use native.Mathlib.Omega.{arith}
 use mathlib.Core.Path.{_≡_, refl, sym, ap, _∙_, subst}
 use mathlib.Core.Bool.{Bool, true, false, true≢false}
@@ -12,7 +11,7 @@ use lib.ListN.{length, getD, set, length-set}
 use lib.Seq.{getD-set-same, getD-set-other}
 use lib.Ieee.{Float, nan, lt, le, eq, ofBits, ofFields, odd}
 use Rattle.floats.specs.Names.{sub32, mul32}
-use Rattle.lists.specs.Pick.{pick, picked, passed, by-case}
+use Rattle.lists.specs.Pick.{pick, by-case}
 use Rattle.draws.specs.Draws.{randomOf}
 use Rattle.pitch.specs.Register.{nil}
 use Rattle.pitch.specs.Partials.{sumOf, harmonicFrom, harmonicOf, withoutOf, drawnFrom}
@@ -57,6 +56,26 @@ harmonic-drawable ws t = ⊎-elim (λ e. inl e) (λ f. inr (drawable f)) (harmon
           to = omega (arith, f .is, f .inside);
           heavy = ap (λ (k : ℕ). le (getD ws k nan) nil) (omega (arith, f .is)) ∙ f .heavy;
         }
+
+-- ---- where no weight is above what is left of the target, the last that can be drawn is the answer
+unfoldable pub unstopped : List Float → Float → Bool
+unstopped [] t = true
+unstopped (w ∷ ws) t = pick (le w nil) (unstopped ws t) (pick (lt t w) false (unstopped ws (sub32 t w)))
+
+unfoldable pub lastHeavy : ℕ → List Float → ℕ → ℕ
+lastHeavy i [] c = c
+lastHeavy i (w ∷ ws) c = lastHeavy (suc i) ws (pick (le w nil) c (i + 1))
+
+last-from : (i : ℕ) (ws : List Float) (t : Float) (c : ℕ) → unstopped ws t ≡ true → harmonicFrom i ws (t, c) ≡ lastHeavy i ws c
+unfolding harmonicFrom unstopped lastHeavy pick
+last-from i [] t c h = refl
+last-from i (w ∷ ws) t c h =
+    by-case (le w nil) (λ q. rw q (last-from (suc i) ws t c (rw q at h)))
+    (λ q. by-case (lt t w) (λ s. absurd (true≢false (sym (rw (q, s) at h)))) (λ s. rw (q, s) (last-from (suc i) ws (sub32 t w) (i + 1) (rw (q, s) at h))))
+
+pub last-of-the-walk : (ws : List Float) (t : Float) → unstopped ws t ≡ true → harmonicOf ws t ≡ lastHeavy 0 ws 0
+unfolding harmonicOf
+last-of-the-walk ws t h = last-from 0 ws t 0 h
 
 -- ---- slot by slot: `start` are the weights at first, ws those that are left
 pub record Chosen (start ws : List Float) (selected : List ℕ) : Type 0 where

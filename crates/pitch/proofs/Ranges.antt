@@ -4,7 +4,7 @@ use mathlib.Core.Bool.{not}
 use lib.Dec.{T}
 use lib.Ieee.{Float, nan, inf, fin, binary32, fits, isNan, lt, le, eq, add, sub, neg, mul, div, sum, round, size, span, climb, units, odd, ofBits, ofFields}
 use lib.Ieee.Bits.{ofBits-fits}
-use lib.Ieee.Fits.{add-fits, sub-fits, mul-fits, div-fits}
+use lib.Ieee.Fits.{mul-fits, div-fits}
 use lib.Ieee.Scale.{finite}
 use lib.Count.{leadingZeros, trailingZeros}
 use Rattle.floats.specs.Names.{f32, add32, sub32, mul32, div32}

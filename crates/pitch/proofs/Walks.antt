@@ -3,12 +3,12 @@ use mathlib.Core.Path.{_≡_, refl, sym, ap, _∙_}
 use Prim.Native.Nat.{ℕ, zero, suc, _+_, _-_, _≤_, _<_}
 use native.Mathlib.Omega.{arith}
 use native.Mathlib.Numerals.{add-one}
-use mathlib.Core.Bool.{Bool, true, false}
+use mathlib.Core.Bool.{true, false}
 use mathlib.Core.List.{List, [], _∷_}
 use lib.Dec.{eqb}
 use lib.ListN.{length, set, length-set}
 use lib.Ieee.{Float, lt, le}
-use Rattle.floats.specs.Names.{f32, sub32, mul32}
+use Rattle.floats.specs.Names.{sub32, mul32}
 use Rattle.lists.specs.Pick.{pick, picked, passed, either}
 use Rattle.draws.specs.Draws.{randomOf}
 use Rattle.pitch.specs.Register.{nil}

@@ -1,6 +1,6 @@
 -- The harmonics of one particle, line by line as the Rust's `select_partials`. Definitions only. A harmonic counts from 1; 0 is none.
 use Prim.Native.Nat.{ℕ, zero, suc, _+_, _-_}
-use mathlib.Core.Bool.{Bool, cond}
+use mathlib.Core.Bool.{cond}
 use mathlib.Core.List.{List, [], _∷_}
 use lib.Dec.{eqb, leb}
 use lib.ListN.{getD, set}

@@ -2,9 +2,8 @@
 use lib.Ieee.{Float}
 use Rattle.floats.specs.Names.{sub32}
 use borrow.Author.Needs.{needs}
-use mathlib.Core.Path.{_≡_, refl, sym, ap, _∙_}
-use native.Mathlib.Omega.{arith}
-use Prim.Native.Nat.{ℕ, suc, _+_, _-_, _≤_, _<_}
+use mathlib.Core.Path.{ap, _∙_}
+use Prim.Native.Nat.{_-_}
 use Rattle.pitch.proofs.Walks.{Chosen, chosen-none, chosen-here, chosen-more, chosen-end}
 use Rattle.pitch.specs.Octave.{weightOf, lastOf, chosenOf}
 use Rattle.pitch.proofs.octave.chosen.Statement.{statement}

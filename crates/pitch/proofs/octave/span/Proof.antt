@@ -1,9 +1,9 @@
 -- `span` meets its contract: one test.
 use Rattle.lists.specs.Pick.{took, skipped}
-use Rattle.pitch.specs.Octave.{asFloat, lastOf, spanOf}
+use Rattle.pitch.specs.Octave.{asFloat, spanOf}
 use lib.Dec.{ltb}
 use Prim.Native.Nat.{ℕ}
-use mathlib.Core.Path.{_≡_, sym, ap, _∙_}
+use mathlib.Core.Path.{sym, ap, _∙_}
 use borrow.Author.Tests.{lt-ltb, le-ltb}
 use borrow.Author.Needs.{needs}
 use Rattle.pitch.proofs.octave.span.Statement.{statement}

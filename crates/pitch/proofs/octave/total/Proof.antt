@@ -1,13 +1,12 @@
 -- `total` meets its contract: after i octaves the sum is the definition's.
 use borrow.Author.Needs.{needs}
-use mathlib.Core.Path.{_≡_, refl, sym, ap, _∙_}
+use mathlib.Core.Path.{_≡_, ap, _∙_}
 use native.Mathlib.Omega.{arith}
-use Prim.Native.Nat.{ℕ, suc, _+_, _-_, _≤_, _<_}
+use Prim.Native.Nat.{ℕ, _-_, _≤_}
 use Rattle.floats.specs.Names.{add32}
 use lib.Ieee.{Float}
 use Rattle.lists.specs.Times.{times, times-none, times-more}
 use Rattle.pitch.specs.Octave.{weightOf, minusNil, totalOf}
-use Rattle.pitch.specs.Register.{nil}
 use Rattle.pitch.proofs.octave.total.Statement.{statement}
 use Rattle.pitch.proofs.octave.total.Tie as tie
 

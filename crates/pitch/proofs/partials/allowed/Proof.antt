@@ -1,9 +1,7 @@
 -- `allowed` meets its contract: a weight for each index.
 use borrow.Author.Needs.{needs}
-use mathlib.Core.Path.{_≡_, refl, sym, ap, _∙_}
-use native.Mathlib.Omega.{arith}
-use Prim.Native.Nat.{ℕ, suc, _+_, _-_, _≤_, _<_}
-use lib.Ieee.{Float, nan}
+use Prim.Native.Nat.{ℕ, _-_}
+use lib.Ieee.{nan}
 use lib.ListN.{getD}
 use Rattle.lists.specs.Table.{Filled, filled-none, filled-more, filled-all}
 use Rattle.pitch.specs.Partials.{keptOf, allowedOf}

@@ -1,8 +1,6 @@
 -- `drawn` meets its contract: slot by slot.
 use borrow.Author.Needs.{needs}
-use mathlib.Core.Path.{_≡_, refl, sym, ap, _∙_}
-use native.Mathlib.Omega.{arith}
-use Prim.Native.Nat.{ℕ, suc, _+_, _-_, _≤_, _<_}
+use Prim.Native.Nat.{_-_}
 use Rattle.pitch.proofs.Walks.{Drawn, drawn-none, drawn-more, drawn-here, drawn-all}
 use Rattle.pitch.specs.Partials.{drawnOf}
 use Rattle.pitch.proofs.partials.drawn.Statement.{statement}

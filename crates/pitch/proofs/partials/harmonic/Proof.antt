@@ -1,8 +1,7 @@
 -- `harmonic` meets its contract: the walk, turn by turn.
 use borrow.Author.Needs.{needs}
-use mathlib.Core.Path.{_≡_, refl, sym, ap, _∙_}
-use native.Mathlib.Omega.{arith}
-use Prim.Native.Nat.{ℕ, suc, _+_, _-_, _≤_, _<_}
+use mathlib.Core.Path.{sym, _∙_}
+use Prim.Native.Nat.{_-_}
 use Rattle.lists.specs.Pick.{picked, passed}
 use Rattle.lists.specs.Rest.{Rest, rest-none, rest-more, rest-here, rest-all}
 use Rattle.pitch.specs.Partials.{harmonicFrom, harmonicOf}

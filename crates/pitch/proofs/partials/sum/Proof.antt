@@ -1,8 +1,7 @@
 -- `sum` meets its contract: a walk over the weights.
 use borrow.Author.Needs.{needs}
-use mathlib.Core.Path.{_≡_, refl, sym, ap, _∙_}
-use native.Mathlib.Omega.{arith}
-use Prim.Native.Nat.{ℕ, suc, _+_, _-_, _≤_, _<_}
+use mathlib.Core.Path.{refl}
+use Prim.Native.Nat.{ℕ, _-_}
 use Rattle.floats.specs.Names.{add32}
 use lib.Ieee.{Float}
 use Rattle.lists.specs.Walk.{Walked, walked-none, walked-more, walked-all}

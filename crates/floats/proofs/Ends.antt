@@ -1,0 +1,36 @@
+-- What lies between two numbers is no larger than they are; what both have, the smaller has; what is at most another is not above it.
+use Prim.Native.Nat.{ℕ}
+use native.Mathlib.Omega.{arith}
+use mathlib.Core.Path.{_≡_, _∙_, subst}
+use mathlib.Core.Bool.{true, false}
+use borrow.Author.Tests.{le-ltb}
+use lib.IntN.{ℤ}
+use lib.Dec.{T}
+use lib.Ieee.{Float, nan, inf, fin, Format, neg, lt, le, fits, isNan}
+use Rattle.lists.specs.Pick.{by-case}
+use Rattle.floats.specs.Choose.{min}
+use Rattle.floats.proofs.Keys.{key, lt-key}
+use Rattle.floats.proofs.Mag.{Mag, Upto, le-upto}
+use Rattle.floats.proofs.Rising.{nought, neg-falls, past-lowest, past-highest}
+use Rattle.floats.proofs.Rules.{le→key, key→le, le-left, le-right}
+
+module _ (P : Float → Type 0) (x y : Float) (p : P x) (q : P y) where
+  pub of-min : P (min x y)
+  unfolding min
+  of-min = by-case (isNan x) (λ e. rw e q) (λ e. rw e (by-case (lt y x) (λ d. rw d q) (λ d. rw d p)))
+
+module _ (f : Format) where
+  pub not-above : (x y : Float) → T (fits f x) → T (fits f y) → T (le x y) → lt y x ≡ false
+  not-above x y p q h = lt-key f y x q p (le-right x y h) (le-left x y h) ∙ le-ltb (key f y) (key f x) (le→key f x y p q h)
+
+  pub from-zero : (m : ℕ) (e : ℤ) → T (fits f (fin false m e)) → T (le nought (fin false m e))
+  unfolding isNan fits
+  from-zero m e p = key→le f nought (fin false m e) tt p tt tt (omega arith)
+
+  pub mag-between : (lo hi x : Float) (k : ℕ) → T (fits f lo) → T (fits f x) → T (le lo x) → T (le x hi) → Upto (neg lo) k → Upto hi k → Mag x k
+  unfolding neg isNan fits
+  mag-between lo hi nan k p q a b u v = absurd (le-right lo nan a)
+  mag-between lo hi (inf true) k p q a b u v = absurd (subst (λ (z : Float). Upto (neg z) k) (past-lowest lo a) u)
+  mag-between lo hi (inf false) k p q a b u v = absurd (subst (λ (z : Float). Upto z k) (past-highest hi b) v)
+  mag-between lo hi (fin false m e) k p q a b u v = le-upto (fin false m e) hi k (from-zero m e q) b v
+  mag-between lo hi (fin true m e) k p q a b u v = le-upto (fin false m e) (neg lo) k (from-zero m e q) (neg-falls f lo (fin true m e) p q a) u
