@@ -1,9 +1,9 @@
 -- Products over the format: they commute, and that of two finite numbers from 0 on is not negative and rises with either.
-use Prim.Native.Nat.{ℕ, zero, _*_}
+use Prim.Native.Nat.{ℕ, _*_}
 use native.Mathlib.Nat.{mul-comm, zero-mul, mul-pos}
 use native.Mathlib.Omega.{arith}
 use mathlib.Core.Path.{_≡_, refl, ap, _∙_, subst}
-use mathlib.Core.Bool.{Bool, true, false, not}
+use mathlib.Core.Bool.{Bool, true, false}
 use lib.IntN.{ℤ}
 use lib.Dec.{T}
 use lib.Ieee.{Float, nan, inf, fin, Format, up, down, unlike, round, mul, le, isNan, fits}

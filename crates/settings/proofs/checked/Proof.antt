@@ -2,7 +2,6 @@
 use Rattle.lists.specs.Pick.{picked, passed}
 use borrow.Author.Tests.{lt-ltb, le-ltb}
 use Rattle.settings.specs.Mending.{checkedOf}
-use borrow.Author.Needs.{needs}
 use Rattle.settings.proofs.checked.Statement.{statement}
 use Rattle.settings.proofs.checked.Tie as tie
 

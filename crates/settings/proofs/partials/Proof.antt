@@ -2,7 +2,6 @@
 use Rattle.lists.specs.Pick.{picked, passed, skipped}
 use borrow.Author.Tests.{lt-ltb, le-ltb}
 use Rattle.settings.specs.Mending.{partialsOf}
-use borrow.Author.Needs.{needs}
 use Rattle.settings.proofs.partials.Statement.{statement}
 use Rattle.settings.proofs.partials.Tie as tie
 

@@ -1,7 +1,6 @@
 -- `count` meets its contract: the tests in order.
 use Rattle.lists.specs.Pick.{picked, passed, skipped}
 use Rattle.timing.specs.Streams.{countOf}
-use borrow.Author.Needs.{needs}
 use Rattle.timing.proofs.count.Statement.{statement}
 use Rattle.timing.proofs.count.Tie as tie
 

@@ -2,7 +2,6 @@
 use Rattle.lists.specs.Pick.{picked, passed}
 use borrow.Author.Tests.{lt-ltb, le-ltb}
 use Rattle.timing.specs.Streams.{larger}
-use borrow.Author.Needs.{needs}
 use Rattle.timing.proofs.larger.Statement.{statement}
 use Rattle.timing.proofs.larger.Tie as tie
 
