@@ -33,7 +33,7 @@ use Rattle.pitch.specs.Register.{nil, half, one, minHz}
 use Rattle.pitch.specs.Octave.{asFloat, upwardOf, lastOf, chosenFrom, chosenOf, firstOf, octavesOf, octaveOf, upperOf, lowerOf, registerOf}
 use Rattle.settings.specs.declared.Direction.{Direction}
 use Rattle.pitch.proofs.Harmonics.{one-is}
-use Rattle.pitch.proofs.Logs.{log-of-min}
+use Rattle.pitch.proofs.Logs.{log-of-min, log-of-top}
 use Rattle.floats.proofs.Wholes.{At, at-sum, at-difference, at-whole, at-word, at-not-below}
 
 -- ---- the range
@@ -96,10 +96,6 @@ module _ (upper : Float) (p : T (finite upper)) (h : T (le one upper)) where
 log-of-half : log2Of half ≡ fin true 1 (pos 0)
 unfolding log2Of logOf rungOf digitsOf joinedOf fractionOf cellOf fallOf topOf tops slopeOf slopes bendOf bends isNan lt eq sub add neg sum round size span climb units odd trailingZeros leadingZeros ofInt ofBits ofFields mul toBits
 log-of-half = refl
-
-log-of-top : log2Of topHz ≡ f32 0x41408073
-unfolding topHz log2Of logOf rungOf digitsOf joinedOf fractionOf cellOf fallOf topOf tops slopeOf slopes bendOf bends isNan lt eq sub add neg sum round size span climb units odd trailingZeros leadingZeros ofInt ofBits ofFields mul toBits
-log-of-top = refl
 
 above-zero : (x y : Float) → T (fits binary32 x) → T (fits binary32 y) → T (lt nought x) → T (le x y) → T (lt nought y)
 unfolding fits

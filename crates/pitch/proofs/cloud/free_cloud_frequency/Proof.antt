@@ -7,11 +7,11 @@ use Rattle.pitch.proofs.cloud.free_cloud_frequency.Tie as tie
 min32-requires : tie.Need-min32-requires
 min32-requires c κs = search needs
 
+log-of-lower-requires : tie.Need-log-of-lower-requires
+log-of-lower-requires c κs = search needs
+
 log2-requires : tie.Need-log2-requires
 log2-requires c κs = search needs
-
-log2-requires-2 : tie.Need-log2-requires-2
-log2-requires-2 c κs = search needs
 
 ramp-requires : tie.Need-ramp-requires
 ramp-requires c κs = search needs
@@ -46,8 +46,8 @@ free-cloud-frequency-spec =
     tie.close
     (tie.spec
     min32-requires
+    log-of-lower-requires
     log2-requires
-    log2-requires-2
     ramp-requires
     slope-requires
     min32-requires-2

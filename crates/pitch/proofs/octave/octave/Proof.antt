@@ -4,14 +4,14 @@ use borrow.Author.Needs.{needs}
 use Rattle.pitch.proofs.octave.octave.Statement.{statement}
 use Rattle.pitch.proofs.octave.octave.Tie as tie
 
-log2-requires : tie.Need-log2-requires
-log2-requires c κs = search needs
+log-of-lower-requires : tie.Need-log-of-lower-requires
+log-of-lower-requires c κs = search needs
 
 ceil32-requires : tie.Need-ceil32-requires
 ceil32-requires c κs = search needs
 
-log2-requires-2 : tie.Need-log2-requires-2
-log2-requires-2 c κs = search needs
+log-of-upper-requires : tie.Need-log-of-upper-requires
+log-of-upper-requires c κs = search needs
 
 floor32-requires : tie.Need-floor32-requires
 floor32-requires c κs = search needs
@@ -45,9 +45,9 @@ pub octave-spec : {M : Type 1} → statement M
 octave-spec =
     tie.close
     (tie.spec
-    log2-requires
+    log-of-lower-requires
     ceil32-requires
-    log2-requires-2
+    log-of-upper-requires
     floor32-requires
     max32-requires
     f32-to-u32-requires
