@@ -1,0 +1,118 @@
+// One birth: its source, the attempt, the place.
+ghost use mathlib.Core.Path.{_≡_};
+use births::Voice;
+use crate::Engine;
+use crate::Next;
+use crate::Tally;
+use pool::Particle;
+
+fn with_last(next: Next, slot: usize) -> Next {
+    let mut out = next;
+    out.last_source = slot;
+    out
+}
+
+fn drop_one(tally: Tally) -> Tally {
+    let dropped = std::num::wrapping_add_u64(tally.dropped, 1);
+    let mut out = tally;
+    out.dropped = dropped;
+    out
+}
+
+fn try_one(tally: Tally) -> Tally {
+    let attempts = std::num::wrapping_add_u64(tally.attempts, 1);
+    let mut out = tally;
+    out.attempts = attempts;
+    out
+}
+
+fn word(partials: [u8; 3]) -> u64 {
+    partials[0] as u64 + partials[1] as u64 * 256 + partials[2] as u64 * 65536
+}
+
+fn hash(before: u64, index: u64, sample: u64, p: Particle) -> u64 {
+    let partials = p.partials;
+    let turned = floats::rotate_left(sample, 19);
+    let bits = floats::bits32(p.frequency_hz) as u64;
+    draws::mix(before ^ index ^ turned ^ bits ^ word(partials))
+}
+
+fn bear_one(tally: Tally, index: u64, sample: u64, p: Particle) -> Tally {
+    let births = std::num::wrapping_add_u64(tally.births, 1);
+    let decision_hash = hash(tally.decision_hash, index, sample, p);
+    let mut out = tally;
+    out.births = births;
+    out.decision_hash = decision_hash;
+    out
+}
+
+fn voice(engine: Engine, index: u64, slot: usize) -> Voice {
+    if slot < 256 {
+        let source = engine.sources[slot];
+        return births::source_voice(slot, source);
+    }
+    let config = engine.config;
+    let shape = config.shape;
+    births::free_voice(shape, index, engine.clock.phase, engine.prepared.sample_rate)
+}
+
+fn newborn(engine: Engine, index: u64, slot: usize) -> Particle {
+    let voice = voice(engine, index, slot);
+    let config = engine.config;
+    let weights = engine.partial_weights;
+    births::newborn(index, voice, config, engine.prepared.sample_rate, engine.clock.sample, weights)
+}
+
+// The lowest free place is taken; where there is none, the birth is dropped.
+fn admit(engine: Engine, index: u64, slot: usize) -> Engine {
+    let tally = engine.tally;
+    let particles = engine.particles;
+    let place = pool::free_place(particles);
+    let mut out = engine;
+    if place < 64 {
+        let p = newborn(engine, index, slot);
+        out.particles[place] = p;
+        out.tally = bear_one(tally, index, engine.clock.sample, p);
+        return out;
+    }
+    out.tally = drop_one(tally);
+    out
+}
+
+// No source was found while notes are held.
+fn barred(slot: usize, note_input_present: bool) -> bool {
+    if slot == 256 { note_input_present } else { false }
+}
+
+fn attempt(engine: Engine, index: u64, slot: usize) -> Engine {
+    let tally = engine.tally;
+    let mut out = engine;
+    if tally.attempts == crate::MAX_BIRTH_ATTEMPTS {
+        out.tally = drop_one(tally);
+        return out;
+    }
+    out.tally = try_one(tally);
+    if barred(slot, engine.next.note_input_present) {
+        return out;
+    }
+    admit(out, index, slot)
+}
+
+// A trigger's own slot, or one of the eligible sources by the draw.
+fn choose(engine: Engine, index: u64, own: usize) -> usize {
+    if own < 256 {
+        return own;
+    }
+    let sources = engine.sources;
+    sources::choose(sources, engine.next.last_source, draws::random(index, draws::SOURCE))
+}
+
+// The choice is stored whatever follows: a birth that is turned away leaves the sequence of sources as
+// it would have been.
+pub fn birth(engine: Engine, index: u64, own: usize) -> Engine {
+    let slot = choose(engine, index, own);
+    let next = engine.next;
+    let mut out = engine;
+    out.next = with_last(next, slot);
+    attempt(out, index, slot)
+}

@@ -1,0 +1,247 @@
+// The calls that change settings, sources and the place in the film.
+ghost use mathlib.Core.Path.{_≡_};
+use crate::Clock;
+use crate::Done;
+use crate::Engine;
+use crate::Next;
+use refusals::Answer;
+use refusals::Refusal;
+use settings::Config;
+use settings::Shape;
+use sources::Source;
+use timing::SprinkleStream;
+
+fn same_shape(a: Shape, b: Shape) -> bool {
+    match a {
+        Shape::Sprinkle => is_sprinkle(b),
+        Shape::Cloud => !is_sprinkle(b),
+    }
+}
+
+pub fn is_sprinkle(shape: Shape) -> bool {
+    match shape {
+        Shape::Sprinkle => true,
+        Shape::Cloud => false,
+    }
+}
+
+fn refuse(engine: Engine, refusal: Refusal) -> Done {
+    Done {
+        answer: Answer::Refused(refusal),
+        engine,
+    }
+}
+
+fn take(engine: Engine) -> Done {
+    Done {
+        answer: Answer::Taken,
+        engine,
+    }
+}
+
+fn retire_all(engine: Engine) -> Engine {
+    let particles = engine.particles;
+    let retired = pool::retire_all(particles, engine.clock.sample);
+    let mut out = engine;
+    out.particles = retired;
+    out
+}
+
+fn reweigh(engine: Engine, config: Config) -> Engine {
+    if config.partial_rolloff_db != engine.config.partial_rolloff_db {
+        let prepared = engine.prepared;
+        let logs = prepared.partial_logs;
+        let weights = crate::make::weights(logs, config.partial_rolloff_db);
+        let mut out = engine;
+        out.partial_weights = weights;
+        return out;
+    }
+    engine
+}
+
+// Another shape, or on in place of off or the other way round, retires every particle.
+fn switch(engine: Engine, config: Config) -> Engine {
+    let old = engine.config;
+    let before = old.shape;
+    let after = config.shape;
+    if same_shape(before, after) {
+        if old.enabled == config.enabled {
+            return engine;
+        }
+    }
+    retire_all(engine)
+}
+
+// Only before the first sample does the offset jump.
+fn offset(engine: Engine, phase: f32) -> Engine {
+    if engine.clock.sample == 0 {
+        let to = floats::f32_to_f64(phase);
+        let mut out = engine;
+        out.clock.phase_offset = to;
+        return out;
+    }
+    engine
+}
+
+fn enters_sprinkle(before: Config, after: Config) -> bool {
+    let from = before.shape;
+    let to = after.shape;
+    if is_sprinkle(to) {
+        if is_sprinkle(from) {
+            if before.enabled { false } else { after.enabled }
+        } else {
+            true
+        }
+    } else {
+        false
+    }
+}
+
+fn prepare_streams(streams: [SprinkleStream; 3], sync: bool) -> [SprinkleStream; 3] {
+    let mut out = streams;
+    for lane in 0..3 {
+        let stream = out[lane];
+        out[lane] = timing::prepare(stream, lane, sync);
+    }
+    out
+}
+
+fn align_streams(engine: Engine, sync: bool) -> Engine {
+    let streams = timing::align_streams(engine.clock.phase + engine.clock.phase_offset, sync);
+    let mut out = engine;
+    out.streams = streams;
+    out
+}
+
+// Entering Sprinkle begins its streams anew where the clock stands; a change of sync alone puts the
+// same starts on the grid or off it.
+fn restart(engine: Engine, before: Config, after: Config) -> Engine {
+    if enters_sprinkle(before, after) {
+        return align_streams(engine, after.sync);
+    }
+    if before.sync == after.sync {
+        return engine;
+    }
+    let streams = engine.streams;
+    let prepared = prepare_streams(streams, after.sync);
+    let mut out = engine;
+    out.streams = prepared;
+    out
+}
+
+fn with_config(engine: Engine, config: Config) -> Engine {
+    let mut out = engine;
+    out.config = config;
+    out
+}
+
+fn configured(engine: Engine, config: Config) -> Engine {
+    let before = engine.config;
+    let weighed = reweigh(engine, config);
+    let switched = switch(weighed, config);
+    let moved = offset(switched, config.phase);
+    let set = with_config(moved, config);
+    restart(set, before, config)
+}
+
+pub fn configure(engine: Engine, config: Config) -> Done {
+    let checked = settings::checked(config);
+    match checked {
+        Answer::Taken => take(configured(engine, settings::mended(config))),
+        Answer::Refused(refusal) => refuse(engine, refusal),
+    }
+}
+
+// Presence counts muted and unmapped notes: they must not let free particles in.
+pub fn set_note_input_present(engine: Engine, present: bool) -> Engine {
+    let mut out = engine;
+    out.next.note_input_present = present;
+    out
+}
+
+fn place_source(engine: Engine, slot: usize, source: Source) -> Engine
+{
+    let mut out = engine;
+    out.sources[slot] = source;
+    if sources::pitched(source.frequency_hz) {
+        let particles = engine.particles;
+        let retuned = pool::retune(particles, slot, source.frequency_hz);
+        out.particles = retuned;
+        return out;
+    }
+    out
+}
+
+pub fn set_source(engine: Engine, slot: usize, source: Source) -> Done {
+    if slot >= 256 {
+        return refuse(engine, Refusal::Slot);
+    }
+    let old = engine.sources[slot];
+    if sources::same(old, source) {
+        return take(engine);
+    }
+    take(place_source(engine, slot, source))
+}
+
+// Clears the slot and retires those who follow it.
+pub fn retire_source(engine: Engine, slot: usize) -> Done {
+    if slot >= 256 {
+        return refuse(engine, Refusal::Slot);
+    }
+    let none = sources::no_source();
+    let particles = engine.particles;
+    let retired = pool::retire_bound(particles, slot, engine.clock.sample);
+    let mut out = engine;
+    out.sources[slot] = none;
+    out.particles = retired;
+    take(out)
+}
+
+// The source supplies no more births; its windows finish at their last pitch.
+pub fn release_source(engine: Engine, slot: usize) -> Done {
+    if slot >= 256 {
+        return refuse(engine, Refusal::Slot);
+    }
+    let old = engine.sources[slot];
+    let mut out = engine;
+    out.sources[slot] = sources::released(old);
+    take(out)
+}
+
+fn sought_phase(cycles: f64) -> f64 {
+    if floats::is_finite64(cycles) {
+        return floats::rem_euclid64(cycles, 1000000000.0);
+    }
+    0.0
+}
+
+// The first opportunity after the reference.
+fn sought_opportunity(phase: f64, reference: f64) -> u64 {
+    let opportunity = floats::f64_to_u64(floats::floor64(phase));
+    if timing::timing_reference(opportunity) <= reference {
+        return std::num::wrapping_add_u64(opportunity, 1);
+    }
+    opportunity
+}
+
+// Starts anew at the destination; what was missed is never made up for.
+pub fn seek(engine: Engine, cycles: f64) -> Engine {
+    let retired = retire_all(engine);
+    let phase = sought_phase(cycles);
+    let phase_offset = floats::f32_to_f64(engine.config.phase);
+    let clock = Clock {
+        sample: engine.clock.sample,
+        phase,
+        phase_offset,
+    };
+    let next = Next {
+        opportunity: sought_opportunity(phase, phase + phase_offset),
+        immediate_index: 0,
+        last_source: sources::MAX_SOURCES,
+        note_input_present: engine.next.note_input_present,
+    };
+    let mut out = retired;
+    out.clock = clock;
+    out.next = next;
+    align_streams(out, engine.config.sync)
+}

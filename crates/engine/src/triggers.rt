@@ -1,0 +1,58 @@
+// Births that a note asks for at once.
+ghost use mathlib.Core.Path.{_≡_};
+use crate::Engine;
+use crate::Outcome;
+use crate::Reserved;
+use crate::Triggered;
+use refusals::Refusal;
+
+// An index is reserved when the note arrives, whatever becomes of it: overflow must not shift what
+// later notes draw.
+pub fn reserve_trigger(engine: Engine) -> Reserved {
+    let index = engine.next.immediate_index;
+    let after = std::num::wrapping_add_u64(index, 1);
+    let mut out = engine;
+    out.next.immediate_index = after;
+    Reserved { index, engine: out }
+}
+
+fn permitted(engine: Engine, slot: usize) -> bool
+{
+    let config = engine.config;
+    let shape = config.shape;
+    let source = engine.sources[slot];
+    if config.enabled {
+        if crate::calls::is_sprinkle(shape) {
+            sources::eligible(source)
+        } else {
+            false
+        }
+    } else {
+        false
+    }
+}
+
+fn told(outcome: Outcome, engine: Engine) -> Triggered {
+    Triggered { outcome, engine }
+}
+
+pub fn trigger_reserved(engine: Engine, slot: usize, index: u64) -> Triggered {
+    if slot >= 256 {
+        return told(Outcome::Refused(Refusal::Slot), engine);
+    }
+    if permitted(engine, slot) {
+        let out = crate::birth::birth(engine, index ^ 9223372036854775808, slot);
+        if out.tally.dropped == engine.tally.dropped {
+            return told(Outcome::Born, out);
+        }
+        return told(Outcome::Dropped, out);
+    }
+    told(Outcome::NotEligible, engine)
+}
+
+pub fn trigger(engine: Engine, slot: usize) -> Triggered {
+    let reserved = reserve_trigger(engine);
+    let index = reserved.index;
+    let with_index = reserved.engine;
+    trigger_reserved(with_index, slot, index)
+}
