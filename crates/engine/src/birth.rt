@@ -1,9 +1,9 @@
 // One birth: its source, the attempt, the place.
 ghost use mathlib.Core.Path.{_≡_};
-use births::Voice;
 use crate::Engine;
 use crate::Next;
 use crate::Tally;
+use births::Voice;
 use pool::Particle;
 
 fn with_last(next: Next, slot: usize) -> Next {
@@ -53,14 +53,26 @@ fn voice(engine: Engine, index: u64, slot: usize) -> Voice {
     }
     let config = engine.config;
     let shape = config.shape;
-    births::free_voice(shape, index, engine.clock.phase, engine.prepared.sample_rate)
+    births::free_voice(
+        shape,
+        index,
+        engine.clock.phase,
+        engine.prepared.sample_rate,
+    )
 }
 
 fn newborn(engine: Engine, index: u64, slot: usize) -> Particle {
     let voice = voice(engine, index, slot);
     let config = engine.config;
     let weights = engine.partial_weights;
-    births::newborn(index, voice, config, engine.prepared.sample_rate, engine.clock.sample, weights)
+    births::newborn(
+        index,
+        voice,
+        config,
+        engine.prepared.sample_rate,
+        engine.clock.sample,
+        weights,
+    )
 }
 
 // The lowest free place is taken; where there is none, the birth is dropped.
@@ -81,7 +93,11 @@ fn admit(engine: Engine, index: u64, slot: usize) -> Engine {
 
 // No source was found while notes are held.
 fn barred(slot: usize, note_input_present: bool) -> bool {
-    if slot == 256 { note_input_present } else { false }
+    if slot == 256 {
+        note_input_present
+    } else {
+        false
+    }
 }
 
 fn attempt(engine: Engine, index: u64, slot: usize) -> Engine {
@@ -104,7 +120,11 @@ fn choose(engine: Engine, index: u64, own: usize) -> usize {
         return own;
     }
     let sources = engine.sources;
-    sources::choose(sources, engine.next.last_source, draws::random(index, draws::SOURCE))
+    sources::choose(
+        sources,
+        engine.next.last_source,
+        draws::random(index, draws::SOURCE),
+    )
 }
 
 // The choice is stored whatever follows: a birth that is turned away leaves the sequence of sources as

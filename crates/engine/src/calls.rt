@@ -159,8 +159,7 @@ pub fn set_note_input_present(engine: Engine, present: bool) -> Engine {
     out
 }
 
-fn place_source(engine: Engine, slot: usize, source: Source) -> Engine
-{
+fn place_source(engine: Engine, slot: usize, source: Source) -> Engine {
     let mut out = engine;
     out.sources[slot] = source;
     if sources::pitched(source.frequency_hz) {

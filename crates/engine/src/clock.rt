@@ -20,7 +20,11 @@ fn lane_once(engine: Engine, lane: usize, reference: f64) -> Engine {
     out.streams[lane] = moved;
     if stream.emit {
         if config.enabled {
-            return crate::birth::birth(out, draws::sprinkle_key(lane, stream.index), sources::MAX_SOURCES);
+            return crate::birth::birth(
+                out,
+                draws::sprinkle_key(lane, stream.index),
+                sources::MAX_SOURCES,
+            );
         }
     }
     out
@@ -88,7 +92,11 @@ fn tick(engine: Engine) -> Engine {
     let clock = engine.clock;
     let step = floats::f32_to_f64(config.rate_hz) / engine.prepared.sample_rate;
     let phase = floats::pick64(config.scheduled, clock.phase + step, clock.phase);
-    let phase_offset = glide(clock.phase_offset, config.phase, engine.prepared.phase_alpha);
+    let phase_offset = glide(
+        clock.phase_offset,
+        config.phase,
+        engine.prepared.phase_alpha,
+    );
     let sample = std::num::wrapping_add_u64(clock.sample, 1);
     let moved = Clock {
         sample,

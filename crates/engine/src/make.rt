@@ -10,7 +10,11 @@ use refusals::Answer;
 use refusals::Refusal;
 
 fn lawful(sample_rate: f32) -> bool {
-    if sample_rate >= 8000.0 { sample_rate <= 384000.0 } else { false }
+    if sample_rate >= 8000.0 {
+        sample_rate <= 384000.0
+    } else {
+        false
+    }
 }
 
 fn partial_logs() -> [f32; 24] {
@@ -44,7 +48,11 @@ fn prepared(sample_rate: f32) -> Prepared {
 
 fn from_prepared(prepared: Prepared) -> Engine {
     let partial_weights = prepared.default_partial_weights;
-    let streams = [timing::new_stream(0, false), timing::new_stream(1, false), timing::new_stream(2, false)];
+    let streams = [
+        timing::new_stream(0, false),
+        timing::new_stream(1, false),
+        timing::new_stream(2, false),
+    ];
     let config = settings::default_config();
     let free = pool::free_particle();
     let none = sources::no_source();

@@ -16,8 +16,7 @@ pub fn reserve_trigger(engine: Engine) -> Reserved {
     Reserved { index, engine: out }
 }
 
-fn permitted(engine: Engine, slot: usize) -> bool
-{
+fn permitted(engine: Engine, slot: usize) -> bool {
     let config = engine.config;
     let shape = config.shape;
     let source = engine.sources[slot];
