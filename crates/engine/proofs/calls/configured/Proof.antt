@@ -1,5 +1,5 @@
 -- `configured` meets its contract: one step after the other.
-use Rattle.engine.specs.Calls.{offset, configuredTo}
+use Rattle.engine.specs.Calls.{configuredTo}
 use borrow.Author.Needs.{needs}
 use Rattle.engine.proofs.calls.configured.Statement.{statement}
 use Rattle.engine.proofs.calls.configured.Tie as tie

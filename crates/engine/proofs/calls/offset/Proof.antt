@@ -3,7 +3,6 @@ use mathlib.Core.Path.{refl}
 use Rattle.lists.specs.Pick.{took, skipped}
 use borrow.Author.Tests.{eq-eqb, ne-eqb}
 use Rattle.engine.specs.Calls.{offset}
-use Rattle.engine.specs.State.{taken}
 use borrow.Author.Needs.{needs}
 use Rattle.engine.proofs.calls.offset.Statement.{statement}
 use Rattle.engine.proofs.calls.offset.Tie as tie

@@ -2,7 +2,6 @@
 use Rattle.lists.specs.Pick.{took, skipped}
 use borrow.Author.Tests.{lt-ltb, le-ltb}
 use Rattle.engine.specs.Calls.{releaseSourceOf}
-use Rattle.engine.specs.State.{taken}
 use borrow.Author.Needs.{needs}
 use Rattle.engine.proofs.calls.release_source.Statement.{statement}
 use Rattle.engine.proofs.calls.release_source.Tie as tie

@@ -1,7 +1,6 @@
 -- `same_flag` meets its contract: one test.
 use mathlib.Core.Path.{refl}
 use Rattle.lists.specs.Pick.{took, skipped}
-use Rattle.engine.specs.State.{taken}
 use Rattle.engine.proofs.calls.same_flag.Statement.{statement}
 use Rattle.engine.proofs.calls.same_flag.Tie as tie
 

@@ -2,7 +2,6 @@
 use mathlib.Core.Path.{refl, sym, _∙_}
 use Rattle.lists.specs.Pick.{took, skipped}
 use Rattle.engine.specs.Calls.{sameKind}
-use Rattle.engine.specs.State.{taken}
 use borrow.Author.Needs.{needs}
 use Rattle.engine.proofs.calls.same_kind.Statement.{statement}
 use Rattle.engine.proofs.calls.same_kind.Tie as tie

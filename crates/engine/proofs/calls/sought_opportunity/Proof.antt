@@ -3,7 +3,6 @@ use mathlib.Core.Path.{refl, sym, ap, _∙_}
 use Rattle.lists.specs.Pick.{took, skipped}
 use lib.Ieee.{Float, le}
 use Rattle.engine.specs.Calls.{soughtOpportunity}
-use Rattle.engine.specs.State.{taken}
 use borrow.Author.Needs.{needs}
 use Rattle.engine.proofs.calls.sought_opportunity.Statement.{statement}
 use Rattle.engine.proofs.calls.sought_opportunity.Tie as tie

@@ -1,5 +1,4 @@
 -- `lawful` meets its contract: one test after the other.
-use Rattle.engine.specs.State.{taken}
 use Rattle.settings.specs.Mending.{lawfulRate}
 use borrow.Author.Needs.{needs}
 use Rattle.engine.proofs.make.lawful.Statement.{statement}

@@ -5,7 +5,7 @@ use Rattle.lists.specs.Pick.{took, skipped}
 use lib.Ieee.{Float, le}
 use Rattle.engine.specs.Birth.{bornOf}
 use Rattle.engine.specs.Time.{withOpportunity, cloudOf}
-use Rattle.engine.specs.State.{taken, withNext}
+use Rattle.engine.specs.State.{withNext}
 use borrow.Author.Needs.{needs}
 use Rattle.engine.proofs.time.cloud.Statement.{statement}
 use Rattle.engine.proofs.time.cloud.Tie as tie

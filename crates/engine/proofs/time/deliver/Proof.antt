@@ -2,7 +2,6 @@
 use mathlib.Core.Path.{refl}
 use Rattle.lists.specs.Pick.{took, skipped}
 use Rattle.engine.specs.Time.{byShape, deliveredOf}
-use Rattle.engine.specs.State.{taken}
 use borrow.Author.Needs.{needs}
 use Rattle.engine.proofs.time.deliver.Statement.{statement}
 use Rattle.engine.proofs.time.deliver.Tie as tie

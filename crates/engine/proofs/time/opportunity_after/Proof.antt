@@ -3,7 +3,6 @@ use mathlib.Core.Path.{refl}
 use Rattle.lists.specs.Pick.{took, skipped}
 use borrow.Author.Tests.{lt-ltb, le-ltb}
 use Rattle.engine.specs.Time.{opportunityAfter}
-use Rattle.engine.specs.State.{taken}
 use Rattle.timing.specs.Streams.{larger}
 use borrow.Author.Needs.{needs}
 use Rattle.engine.proofs.time.opportunity_after.Statement.{statement}

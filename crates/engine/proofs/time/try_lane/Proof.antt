@@ -4,7 +4,7 @@ use mathlib.Core.Path.{refl, ap, _∙_}
 use Rattle.lists.specs.Pick.{took, skipped}
 use Rattle.engine.specs.Birth.{bornOf}
 use Rattle.engine.specs.Time.{triedOf}
-use Rattle.engine.specs.State.{taken, withStreams, pastStream}
+use Rattle.engine.specs.State.{withStreams, pastStream}
 use Rattle.engine.specs.declared.Engine.{Engine}
 use Rattle.timing.specs.declared.SprinkleStream.{SprinkleStream}
 use lib.ListN.{set, getD}

@@ -2,8 +2,7 @@
 use mathlib.Core.Path.{refl, sym, ap, _∙_}
 use Rattle.lists.specs.Pick.{took, skipped}
 use borrow.Author.Tests.{eq-eqb, ne-eqb, lt-ltb, le-ltb}
-use Rattle.engine.specs.Triggers.{told, outcomeOf, triggeredBy}
-use Rattle.engine.specs.State.{taken}
+use Rattle.engine.specs.Triggers.{outcomeOf, triggeredBy}
 use borrow.Author.Needs.{needs}
 use Rattle.engine.proofs.triggers.trigger_reserved.Statement.{statement}
 use Rattle.engine.proofs.triggers.trigger_reserved.Tie as tie
