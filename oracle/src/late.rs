@@ -14,7 +14,8 @@ pub const CHECKS: u64 = 12;
 /// So many samples that one of the script's advances ends exactly on the limit, or one past it, or
 /// goes over it somewhere.
 pub fn start(seed: u64, script: &[u8]) -> u64 {
-    let mut d = Draws::new(seed, "late");
+    // Scripts of one seed differ in length, mostly, and so in what is chosen.
+    let mut d = Draws::new(seed ^ (script.len() as u64) << 32, "late");
     let ends = ends(script);
     let end = if ends.is_empty() { 0 } else { d.pick(&ends) };
     let last = SAMPLE_LIMIT.saturating_sub(end);
