@@ -125,6 +125,7 @@ probes! {
     rotate_left rk_probe_rotate_left(x: u64, n: u32) -> u64 => x.rotate_left(n);
     mix rk_probe_mix(x: u64) -> u64 => open::mix(x);
     random rk_probe_random(index: u64, stream: u64) -> f32 => open::random(index, stream);
+    stream rk_probe_stream(place: u64) -> u64 => open::stream(place);
     sprinkle_key rk_probe_sprinkle_key(lane: u64, index: u64) -> u64 => open::sprinkle_key(lane as usize, index);
     mended_rate rk_probe_mended_rate(x: f32) -> f32 => open::mended(&Settings { rate_hz: x, ..plain() }).rate_hz;
     mended_size rk_probe_mended_size(x: f32) -> f32 => open::mended(&Settings { size_octaves: x, ..plain() }).size_octaves;

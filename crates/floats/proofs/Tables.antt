@@ -1,10 +1,12 @@
--- Tables: one computed test of a rule over all entries, and what the last arm of a `match` knows.
-use mathlib.Core.Path.{_≡_, sym, subst⁻¹}
+-- Tables: one computed test of a rule over all entries, what the last arm of a `match` knows, and what stands past the end.
+use mathlib.Core.Path.{_≡_, refl, sym, subst⁻¹}
 use mathlib.Core.Bool.{Bool, true, _&&_}
 use mathlib.Core.Logic.{inl, inr}
+use mathlib.Core.List.{List, [], _∷_}
 use Prim.Native.Nat.{ℕ, zero, suc, zero-le, _≤_, _<_}
 use native.Mathlib.Nat.{not-suc-le-zero, le-of-suc-le-suc, eq-or-lt-of-le}
 use lib.Dec.{T}
+use lib.ListN.{length, getD}
 use lib.Ieee.Fits.{and-l, and-r}
 
 -- the test passes at each number below n
@@ -30,3 +32,8 @@ past (suc n) i a = elim (eq-or-lt-of-le (past n i (a .0))) [
   | inl e ↦ absurd (a .1 (sym e))
   | inr l ↦ l
 ]
+
+pub past-end : {A : Type 0} (xs : List A) (i : ℕ) (d : A) → length xs ≤ i → getD xs i d ≡ d
+past-end [] i d h = refl
+past-end (x ∷ xs) zero d h = absurd (not-suc-le-zero h)
+past-end (x ∷ xs) (suc i) d h = past-end xs i d (le-of-suc-le-suc h)
