@@ -170,7 +170,7 @@ module _ (f : Format) where
       subst (λ (z : Float). T (le z (div f d (fin false (suc n) g)))) (div-self n g)
       (div-rises f (fin false (suc n) g) d (fin false (suc n) g) tt h k (quotient-number (fin false (suc n) g) n g tt) (quotient-number d n g (le-right (fin false (suc n) g) d k)))
 
-  one-number : (q : Float) → T (not (isNan q)) → T (not (isNan (sub f one q)))
+  pub one-number : (q : Float) → T (not (isNan q)) → T (not (isNan (sub f one q)))
   unfolding sub add neg isNan
   one-number nan u = absurd u
   one-number (inf s) u = tt
