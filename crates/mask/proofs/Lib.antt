@@ -1,0 +1,6 @@
+pub mod Closed
+pub mod Halves
+pub mod Opens
+pub mod Ordered
+pub mod Ranges
+pub mod Scanned
