@@ -39,5 +39,5 @@ module _ (ws : List Window) (logs : List Float) where
   opened-all j ys m h =
       ext-getD nan ys (table (length logs) (openAt ws logs)) (m .same ∙ sym (length-table (length logs) (openAt ws logs)))
       (λ i l.
-        let k : i < length logs = omega (arith, m .same) in
-        walked-all (m .at i k) h ∙ sym (table-at (length logs) (openAt ws logs) i nan k))
+      let k : i < length logs = omega (arith, m .same) in
+      walked-all (m .at i k) h ∙ sym (table-at (length logs) (openAt ws logs) i nan k))

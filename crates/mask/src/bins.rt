@@ -12,7 +12,10 @@ pub const MAX_FFT_SIZE: usize = 16384;
 fn lawful_rate(rate: f32) -> bool
     ensures { λ r. ⌜ r ≡ lawfulRate rate ⌝ }
 {
-    crate::logs::both(floats::is_finite32(rate), crate::logs::both(8000.0 <= rate, rate <= 384000.0))
+    crate::logs::both(
+        floats::is_finite32(rate),
+        crate::logs::both(8000.0 <= rate, rate <= 384000.0),
+    )
 }
 
 // Bin 0 has no logarithm: its place holds 0.0.

@@ -1,13 +1,15 @@
 // The gains of the bins under a frame.
 ghost use mathlib.Core.Path.{_≡_};
+ghost use mathlib.Core.Bool.{true};
 ghost use lib.ListN.{length, getD};
 ghost use lib.Ieee.{nan};
 ghost use Rattle.lists.specs.Table.{table};
 ghost use Rattle.windows.specs.Opening.{nil};
-ghost use Rattle.mask.specs.Gains.{levelOf, gainOf, gainsOf};
+ghost use Rattle.mask.specs.Gains.{lawfulLogs, openAt, levelOf, gainOf, gainsOf};
 use refusals::Answer;
 use refusals::Refusal;
 use windows::Frame;
+use windows::Window;
 
 fn fill(slice: &mut [f32], x: f32)
     ensures { λ _. ⌜ now (slice .exit) ≡ table (length (now (slice .entry))) (λ i. x) ⌝ }
@@ -50,8 +52,24 @@ fn finish(level: f32, shut: f32, scratch: &[f32], output: &mut [f32])
     }
 }
 
+// The openness of each bin, and from it the gains.
+fn shape(windows: [Window; 192], level: f32, logs: &[f32], scratch: &mut [f32], output: &mut [f32])
+    requires { ⌜ (length (now output) ≡ length (now scratch)) × (length (now output) ≡ length (now logs)) × (lawfulLogs (now logs) ≡ true) ⌝ }
+    ensures { λ _. ⌜ (now (scratch .exit) ≡ table (length (now (output .entry))) (openAt windows (now (logs .entry)))) × (now (output .exit) ≡ table (length (now (output .entry))) (λ i. gainOf level (openAt windows (now (logs .entry)) i))) ⌝ }
+{
+    fill(scratch, 0.0);
+    crate::touch::walk(windows, logs, scratch);
+    finish(level, gain_at(level, 0.0), scratch, output);
+}
+
 // The Rust's `Mask::gains`, with its panics as refusals. Scratch holds the openness of each bin.
-pub fn gains(frame: Frame, depth_db: f32, logs: &[f32], scratch: &mut [f32], output: &mut [f32]) -> Answer
+pub fn gains(
+    frame: Frame,
+    depth_db: f32,
+    logs: &[f32],
+    scratch: &mut [f32],
+    output: &mut [f32],
+) -> Answer
     ensures { λ r. ⌜ (r, now (scratch .exit), now (output .exit)) ≡ gainsOf frame «depth_db» (now (logs .entry)) (now (scratch .entry)) (now (output .entry)) ⌝ }
 {
     if output.len() != scratch.len() {
@@ -69,11 +87,14 @@ pub fn gains(frame: Frame, depth_db: f32, logs: &[f32], scratch: &mut [f32], out
             fill(output, 1.0);
             return Answer::Taken;
         }
-        fill(scratch, 0.0);
         let windows = frame.windows;
-        crate::touch::walk(windows, logs, scratch);
-        let level = level(depth_db, frame.activity);
-        finish(level, gain_at(level, 0.0), scratch, output);
+        shape(
+            windows,
+            level(depth_db, frame.activity),
+            logs,
+            scratch,
+            output,
+        );
         return Answer::Taken;
     }
     Answer::Refused(Refusal::Logs)

@@ -1,51 +1,48 @@
+-- `bin_table` meets its contract: a test for each refusal, in 01's order.
 use borrow.Author.Needs.{needs}
+use mathlib.Core.Path.{_≡_, refl, sym, ap, _∙_}
+use borrow.Author.Tests.{lt-ltb, le-ltb, eq-eqb, ne-eqb}
+use mathlib.Core.List.{List}
+use lib.Ieee.{Float}
+use Rattle.lists.specs.Pick.{took, skipped}
+use Rattle.mask.specs.Bins.{preparedOf}
 use Rattle.mask.proofs.bins.bin_table.Statement.{statement}
 use Rattle.mask.proofs.bins.bin_table.Tie as tie
-use Rattle.mask.proofs.bins.bin_table.Reads as reads
-use Rattle.mask.proofs.bins.bin_table.Lts as lts
-use Rattle.floats.proofs.u64_to_f32.Reads as u64-to-f32-reads
-use Rattle.mask.proofs.bins.fill.Reads as fill-reads
-use Rattle.mask.proofs.bins.lawful_rate.Reads as lawful-rate-reads
 
--- src/bins.rt:40:8
 lawful-rate-requires : tie.Need-lawful-rate-requires
 lawful-rate-requires c κs = search needs
 
--- src/bins.rt:42:13
 returns : tie.Need-returns
-returns c = ?
+unfolding preparedOf
+returns c = took _ _ _ _ (sym (c .before .before .lawful-rate .ensures) ∙ c .before .if1 .taken) (took _ _ _ _ (lt-ltb _ _ (c .if2 .taken)) refl)
 
--- src/bins.rt:45:13
 returns-2 : tie.Need-returns-2
-returns-2 c = ?
+unfolding preparedOf
+returns-2 c = took _ _ _ _ (sym (c .before .before .before .lawful-rate .ensures) ∙ c .before .before .if1 .taken) (skipped _ _ _ _ (le-ltb _ _ (c .before .if2 .left)) (took _ _ _ _ (lt-ltb _ _ (c .if3 .taken)) refl))
 
--- src/bins.rt:47:27
 add-if4 : tie.Need-add-if4
 add-if4 c = search needs
 
--- src/bins.rt:48:32
 u64-to-f32-requires : tie.Need-u64-to-f32-requires
 u64-to-f32-requires c κs = search needs
 
--- src/bins.rt:48:13
 fill-requires : tie.Need-fill-requires
 fill-requires c κs = search needs
 
--- src/bins.rt:49:13
 same-length : tie.Need-same-length
 same-length c = search needs
 
--- src/bins.rt:49:13
 returns-3 : tie.Need-returns-3
-returns-3 c = ?
+unfolding preparedOf
+returns-3 c = took _ _ _ _ (sym (c .before .before .before .before .before .before .before .before .before .lawful-rate .ensures) ∙ c .before .before .before .before .before .before .before .before .if1 .taken) (skipped _ _ _ _ (le-ltb _ _ (c .before .before .before .before .before .before .before .if2 .left)) (skipped _ _ _ _ (le-ltb _ _ (c .before .before .before .before .before .before .if3 .left)) (took _ _ _ _ (eq-eqb _ _ (c .before .before .before .before .before .if4 .taken)) cc)))
 
--- src/bins.rt:51:9
 returns-4 : tie.Need-returns-4
-returns-4 c = ?
+unfolding preparedOf
+returns-4 c = took _ _ _ _ (sym (c .before .before .before .before .lawful-rate .ensures) ∙ c .before .before .before .if1 .taken) (skipped _ _ _ _ (le-ltb _ _ (c .before .before .if2 .left)) (skipped _ _ _ _ (le-ltb _ _ (c .before .if3 .left)) (skipped _ _ _ _ (ne-eqb _ _ (c .if4 .left)) refl)))
 
--- src/bins.rt:37:1
 returns-5 : tie.Need-returns-5
-returns-5 c = ?
+unfolding preparedOf
+returns-5 c = skipped _ _ _ _ (sym (c .before .lawful-rate .ensures) ∙ c .if1 .left) refl
 
 pub bin-table-spec : {M : Type 1} → statement M
 bin-table-spec =

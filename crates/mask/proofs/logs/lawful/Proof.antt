@@ -57,10 +57,11 @@ loop-less c = search needs
 
 loop-again : tie.Need-loop-again Inv-loop μ-loop
 loop-again c =
-    let l = c .before .before .before .before .before .loop in
-    (lawful-next _ (l .i) (l .ok) (l .inv .0) _ _ (l .inv .1) (c .before .follows .ensures) (c .both .ensures),
-    omega (arith, l .inv .1),
-    omega (arith, c .before .before .before .before .loop-test .taken))
+    let l = c .before .before .before .before .before .loop in (
+      lawful-next _ (l .i) (l .ok) (l .inv .0) _ _ (l .inv .1) (c .before .follows .ensures) (c .both .ensures),
+      omega (arith, l .inv .1),
+      omega (arith, c .before .before .before .before .loop-test .taken),
+    )
 
 returns-2 : tie.Need-returns-2 Inv-loop μ-loop
 returns-2 c = let l = c .before .loop in lawful-all _ (l .i) (l .ok) (l .inv .0) (l .inv .2) (c .loop-test .left)

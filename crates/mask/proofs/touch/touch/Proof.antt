@@ -1,43 +1,39 @@
+-- `touch` meets its contract: the two searches give the range.
 use borrow.Author.Needs.{needs}
+use native.Mathlib.Omega.{arith}
+use lib.Ieee.{binary32}
+use lib.Ieee.Fits.{sub-fits, add-fits}
+use Rattle.mask.proofs.Ranges.{raised-off, raised-short, raised-none, raised-range}
 use Rattle.mask.proofs.touch.touch.Statement.{statement}
 use Rattle.mask.proofs.touch.touch.Tie as tie
-use Rattle.mask.proofs.touch.touch.Reads as reads
-use Rattle.mask.proofs.touch.touch.Lts as lts
-use Rattle.mask.proofs.search.first_from.Reads as first-from-reads
-use Rattle.mask.proofs.search.first_past.Reads as first-past-reads
-use Rattle.mask.proofs.touch.raise.Reads as raise-reads
 
--- src/touch.rt:25:9
 returns : tie.Need-returns
-returns c = ?
+returns c = raised-off _ _ _ (c .before .before .before .before .pre .0) (c .if1 .taken)
 
--- src/touch.rt:29:9
 returns-2 : tie.Need-returns-2
-returns-2 c = ?
+returns-2 c = raised-short _ _ _ (c .before .before .before .before .before .pre .0) (c .if2 .taken)
 
--- src/touch.rt:31:9
 first-from-requires : tie.Need-first-from-requires
-first-from-requires c κs = ?
+first-from-requires c κs =
+    let s = c .before .before .before .before .before .before in
+    (c .before .if2 .left, s .pre .1 .under _ (sub-fits binary32 (s .args .w .«center_log2_hz») (s .args .w .«radius_octaves»)))
 
--- src/touch.rt:32:9
 first-past-requires : tie.Need-first-past-requires
-first-past-requires c κs = ?
+first-past-requires c κs =
+    let s = c .before .before .before .before .before .before .before .before in
+    (c .before .before .before .if2 .left, s .pre .1 .upto _ (add-fits binary32 (s .args .w .«center_log2_hz») (s .args .w .«radius_octaves»)))
 
--- src/touch.rt:34:9
 raise-requires : tie.Need-raise-requires
-raise-requires c κs = search needs
+raise-requires c κs = (c .before .before .before .before .before .before .before .before .before .before .before .pre .0, omega (arith, c .before .if3 .taken), c .before .before .first-past .ensures .high)
 
--- src/touch.rt:20:1
 same-length : tie.Need-same-length
 same-length c = search needs
 
--- src/touch.rt:20:1
 returns-3 : tie.Need-returns-3
-returns-3 c = ?
+returns-3 c = raised-range _ _ _ (c .before .before .before .before .before .before .before .before .before .before .before .before .before .before .pre .0) _ _ (c .before .before .before .before .before .before .before .first-from .ensures) (c .before .before .before .before .before .first-past .ensures) _ (c .before .before .before .before .before .before .before .before .before .before .if1 .left) (c .before .before .raise .ensures)
 
--- src/touch.rt:20:1
 returns-4 : tie.Need-returns-4
-returns-4 c = ?
+returns-4 c = raised-none _ _ _ (c .before .before .before .before .before .before .before .before .before .before .pre .0) _ _ (c .before .before .before .first-from .ensures) (c .before .first-past .ensures) (omega (arith, c .if3 .left))
 
 pub touch-spec : {M : Type 1} → statement M
 touch-spec =
