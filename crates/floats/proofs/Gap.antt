@@ -152,11 +152,15 @@ module _ (f : Format) where
       ∙ round-same f false (M * down e) (M * down e) (1 * 2 ^ 0) 1 p (zero-lt-suc 0) (mul-comm (M * down e) 1)
       ∙ own-round f false 1 (pos 0) (one-fits f)
 
-  quotient-number : (d : Float) (n : ℕ) (g : ℤ) → T (not (isNan d)) → T (not (isNan (div f d (fin false (suc n) g))))
+  pub quotient-number : (d r : Float) → T (not (isNan d)) → T (finite r) → T (lt nought r) → T (not (isNan (div f d r)))
   unfolding div isNan
-  quotient-number nan n g u = absurd u
-  quotient-number (inf s) n g u = tt
-  quotient-number (fin s m e) n g u =
+  quotient-number d nan u w h = absurd w
+  quotient-number d (inf s) u w h = absurd w
+  quotient-number d (fin true n g) u w h = absurd (not-above n g h)
+  quotient-number d (fin false zero g) u w h = absurd (not-itself g h)
+  quotient-number nan (fin false (suc n) g) u w h = absurd u
+  quotient-number (inf s) (fin false (suc n) g) u w h = tt
+  quotient-number (fin s m e) (fin false (suc n) g) u w h =
       subst (λ (z : Bool). T (not (isNan (cond z (cond (eqb m 0) nan (inf (unlike s false))) (round f (unlike s false) (m * up e * down g) (suc n * up g * down e)))))) (sym (eqb·suc-zero n))
       (round-number f (unlike s false) (m * up e * down g) (suc n * up g * down e))
 
@@ -168,7 +172,7 @@ module _ (f : Format) where
   div-one d (fin false zero g) u h k = absurd (not-itself g h)
   div-one d (fin false (suc n) g) u h k =
       subst (λ (z : Float). T (le z (div f d (fin false (suc n) g)))) (div-self n g)
-      (div-rises f (fin false (suc n) g) d (fin false (suc n) g) tt h k (quotient-number (fin false (suc n) g) n g tt) (quotient-number d n g (le-right (fin false (suc n) g) d k)))
+      (div-rises f (fin false (suc n) g) d (fin false (suc n) g) tt h k (quotient-number (fin false (suc n) g) (fin false (suc n) g) tt tt h) (quotient-number d (fin false (suc n) g) (le-right (fin false (suc n) g) d k) tt h))
 
   pub one-number : (q : Float) → T (not (isNan q)) → T (not (isNan (sub f one q)))
   unfolding sub add neg isNan

@@ -7,6 +7,7 @@ use lib.IntN.{pos}
 use lib.Dec.{T}
 use lib.Ieee.{Float, nan, inf, fin, binary32, ofBits, add, sub, mul, neg, lt, le, eq, fits, isNan}
 use lib.Ieee as Ieee
+use lib.Ieee.Bits.{is-false}
 use lib.Ieee.Fits.{mul-fits, sub-fits}
 use lib.Ieee.Scale.{finite}
 use Rattle.floats.specs.Choose.{clamp}
@@ -56,10 +57,6 @@ three-less-two : sub binary32 three two ≡ i
 unfolding sub add neg Ieee.sum Ieee.round Ieee.units Ieee.odd Ieee.size Ieee.span Ieee.climb
 three-less-two = refl
 
-is-false : (b : Bool) → T (not b) → b ≡ false
-is-false true h = absurd h
-is-false false h = refl
-
 -- ---- of y from 0 to 1
 module _ (y : Float) (p : T (fits binary32 y)) (m : Mag y 1) (least : T (le nought y)) (most : T (le y i)) where
   abbrev square : Float
@@ -93,7 +90,7 @@ module _ (y : Float) (p : T (fits binary32 y)) (m : Mag y 1) (least : T (le noug
   cubic-finite = (
     mag-finite (mul binary32 square rest) 5 (mul-mag binary32 square rest 1 5 (omega arith) square-mag rest-mag),
     product-from-zero binary32 square rest (mag-finite square 1 square-mag) (mag-finite rest 5 rest-mag) (product-from-zero binary32 y y y-finite y-finite least least)
-    (le-trans binary32 nought i rest z-fits i-fits (sub-fits binary32 three twice) z-below-i rest-least),
+        (le-trans binary32 nought i rest z-fits i-fits (sub-fits binary32 three twice) z-below-i rest-least),
   )
 
 pub taper-finite : (x : Float) → T (fits binary32 x) → T (not (isNan x)) → T (finite (taperOf x)) × T (le nought (taperOf x))
