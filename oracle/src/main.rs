@@ -11,6 +11,7 @@ mod engine;
 mod exact;
 mod field;
 mod gen;
+mod lent;
 #[cfg(linked)]
 mod linked;
 mod listing;
