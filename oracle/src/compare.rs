@@ -78,7 +78,11 @@ pub fn compare(count: u64, out: &mut impl Write) -> io::Result<bool> {
         let (calls, differ) = lent::gains_differ();
         sum.part("mask calls", calls, &differ)?;
         sum.part("bin tables", lent::TABLES, &lent::tables_differ())?;
-        sum.part("attenuations", lent::ATTENUATIONS, &lent::attenuations_differ())?;
+        sum.part(
+            "attenuations",
+            lent::ATTENUATIONS,
+            &lent::attenuations_differ(),
+        )?;
     } else {
         sum.absent("the float helpers (no libprobe.a)")?;
     }

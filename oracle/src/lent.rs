@@ -3,10 +3,10 @@
 use crate::draws::Draws;
 use crate::engine::Frame;
 use crate::gen::values::odd;
+use crate::mask;
 use crate::masks::{bins_case, case, frame, Case};
 use crate::original::open;
 use crate::value::bits32;
-use crate::mask;
 
 pub const GAINS: u64 = 4_000;
 pub const TABLES: u64 = 4_000;
@@ -42,7 +42,18 @@ mod absent {
     const NONE: &str = "nothing is called where the archive is absent";
     type P = *const f32;
     type M = *mut f32;
-    pub unsafe fn rk_probe_gains(_: P, _: usize, _: f32, _: f32, _: P, _: usize, _: M, _: usize, _: M, _: usize) -> u64 {
+    pub unsafe fn rk_probe_gains(
+        _: P,
+        _: usize,
+        _: f32,
+        _: f32,
+        _: P,
+        _: usize,
+        _: M,
+        _: usize,
+        _: M,
+        _: usize,
+    ) -> u64 {
         unreachable!("{NONE}")
     }
     pub unsafe fn rk_probe_bin_table(_: f32, _: u64, _: M, _: usize) -> u64 {
