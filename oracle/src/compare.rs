@@ -2,7 +2,7 @@
 //! cases there were and how many differ.
 use crate::arguments::{Arguments, ARGUMENTS};
 use crate::probes::{Probe, PROBED, PROBES};
-use crate::{elementary, late, marked, masks, ours, reached, scripts};
+use crate::{elementary, late, lent, marked, masks, ours, reached, scripts};
 use std::io::{self, Write};
 
 /// A part that differs shows this many of its cases.
@@ -79,6 +79,14 @@ pub fn compare(count: u64, out: &mut impl Write) -> io::Result<bool> {
         for probe in PROBES {
             sum.part(&format!("probe {}", probe.name), ARGUMENTS, &probed(probe))?;
         }
+        let (calls, differ) = lent::gains_differ();
+        sum.part("mask calls", calls, &differ)?;
+        sum.part("bin tables", lent::TABLES, &lent::tables_differ())?;
+        sum.part(
+            "attenuations",
+            lent::ATTENUATIONS,
+            &lent::attenuations_differ(),
+        )?;
     } else {
         sum.absent("the float helpers (no libprobe.a)")?;
     }

@@ -12,6 +12,7 @@ mod exact;
 mod field;
 mod gen;
 mod late;
+mod lent;
 #[cfg(linked)]
 mod linked;
 mod listing;

@@ -157,4 +157,7 @@ probes! {
         => open::sprinkle_register(index, root_hz, max_hz, way.min(2) as u8).1;
     select_partials rk_probe_select_partials(index: u64, seed: u64, limit: u64, max_ratio: f32) -> u32, at exact::partials
         => packed(open::select_partials(index, weights(seed), limit as usize, max_ratio));
+    taper rk_probe_taper(x: f32) -> f32 => open::taper(x);
+    openness rk_probe_openness(center: f32, radius: f32, amplitude: f32, log2_hz: f32) -> f32, at exact::windows
+        => open::openness([center, radius, amplitude], log2_hz);
 }
