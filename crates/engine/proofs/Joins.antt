@@ -16,7 +16,7 @@ use Rattle.engine.specs.State.{grown, taken}
 use Rattle.engine.specs.Time.{steppedOf, advancedOf}
 use Rattle.engine.proofs.Births.{stepped-sample}
 
-grown-small : (n : ℕ) → n < 2 ^ 40 → grown n ≡ n + 1
+pub grown-small : (n : ℕ) → n < 2 ^ 40 → grown n ≡ n + 1
 grown-small n h = omega arith
 
 -- n steps are n samples
