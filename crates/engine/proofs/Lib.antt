@@ -5,3 +5,4 @@ pub mod Sound
 pub mod Chosen
 pub mod Steps
 pub mod Stays
+pub mod Performed

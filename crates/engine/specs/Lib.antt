@@ -4,3 +4,4 @@ pub mod Birth
 pub mod Time
 pub mod Calls
 pub mod Triggers
+pub mod Acts
