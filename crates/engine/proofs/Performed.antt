@@ -3,6 +3,8 @@ use Prim.Native.Nat.{ℕ, zero, suc, _+_, _^_}
 use mathlib.Core.Path.{_≡_, refl, sym, ap, _∙_}
 use mathlib.Core.Bool.{Bool, true, false}
 use mathlib.Core.List.{List, [], _∷_, _++_}
+use lib.Bits.{bitXor}
+use lib.Dec.{ltb}
 use lib.Ieee.{Float}
 use Rattle.lists.specs.Pick.{pick, either}
 use Rattle.lists.specs.Times.{iterate}
@@ -18,9 +20,9 @@ use Rattle.engine.specs.declared.Triggered.{Triggered}
 use Rattle.engine.specs.State.{withConfig}
 use Rattle.engine.specs.Birth.{bornOf}
 use Rattle.engine.specs.Time.{triedOf, laneOf, lanesOf, cloudOf, byShape, deliveredOf, tickedOf, steppedOf, advancedOf}
-use Rattle.engine.specs.Calls.{retiredAll, aligned, sameKind, reweighed, switched, offset, restarted, configuredTo, answeredBy, configuredOf, notesOf, placedOf, setSourceOf, retireSourceOf, releaseSourceOf, soughtOf}
-use Rattle.engine.specs.Triggers.{reservedOf, isPermitted, triggeredBy, triggeredOf}
-use Rattle.engine.specs.Acts.{Act, act, perform, only, triedActs, laneActs, shapeActs, sampleActs, advanceActs, restartActs, configureActs, checkedActs, triggerActs, Call, actsOf, applied}
+use Rattle.engine.specs.Calls.{retiredAll, aligned, reweighed, switched, offset, restarted, configuredTo, answeredBy, configuredOf, notesOf, placedOf, setSourceOf, retireSourceOf, releaseSourceOf, soughtOf}
+use Rattle.engine.specs.Triggers.{reservedOf, isPermitted, outcomeOf, triggeredBy, triggeredOf}
+use Rattle.engine.specs.Acts.{Act, act, perform, only, triedActs, laneActs, shapeActs, deliverActs, sampleActs, advanceActs, restartActs, weighActs, switchActs, offsetActs, configureActs, checkedActs, triggerActs, Call, actsOf, applied}
 use Rattle.engine.specs.Acts as acts
 
 -- ---- lists of acts
@@ -46,7 +48,7 @@ answer f e false xs ys a b p q = q
 
 -- ---- a sample
 tried : (e : Engine) (lane : ℕ) (reference : Float) → perform e (triedActs e lane reference) ≡ triedOf e lane reference
-unfolding triedActs triedOf perform act pick
+unfolding triedActs triedOf perform act
 tried e lane reference = choice e _ _ _ _ _ refl (choice _ _ _ _ _ _ (choice _ _ _ _ _ _ refl refl) refl)
 
 lane-done : (e : Engine) (lane : ℕ) (reference : Float) → perform e (laneActs e lane reference) ≡ laneOf e lane reference
@@ -62,9 +64,13 @@ shape-done Sprinkle e reference =
     ∙ lane-done (laneOf one 1 reference) 2 reference
 shape-done Cloud e reference = choice e _ _ _ _ _ (choice _ _ _ _ _ _ refl refl) refl
 
+deliver-done : (e : Engine) → perform e (deliverActs e) ≡ deliveredOf e
+unfolding deliverActs deliveredOf perform
+deliver-done e = choice e _ _ _ _ _ (shape-done (e .config .shape) e _) refl
+
 pub sample-done : (e : Engine) → perform e (sampleActs e) ≡ steppedOf e
-unfolding sampleActs steppedOf deliveredOf tickedOf perform act
-sample-done e = then e (deliveredOf e) _ _ (choice e _ _ _ _ _ (shape-done (e .config .shape) e _) refl)
+unfolding sampleActs steppedOf tickedOf perform act
+sample-done e = then e (deliveredOf e) (deliverActs e) _ (deliver-done e)
 
 pub advance-done : (n : ℕ) (e : Engine) → perform e (advanceActs n e) ≡ iterate steppedOf n e
 unfolding advanceActs iterate perform
@@ -76,13 +82,28 @@ restart-done : (e : Engine) (old : Config) → perform e (restartActs e old) ≡
 unfolding restartActs restarted aligned perform act
 restart-done e old = choice e _ _ _ _ _ refl (choice e _ _ _ _ _ refl refl)
 
+weigh-done : (e : Engine) (c : Config) → perform e (weighActs e c) ≡ reweighed e c
+unfolding weighActs reweighed perform act
+weigh-done e c = choice e _ _ _ _ _ refl refl
+
+switch-done : (e : Engine) (c : Config) → perform e (switchActs e c) ≡ switched e c
+unfolding switchActs switched perform act
+switch-done e c = choice e _ _ _ _ _ refl refl
+
+offset-done : (e : Engine) (phase : Float) → perform e (offsetActs e phase) ≡ offset e phase
+unfolding offsetActs offset perform act
+offset-done e phase = choice e _ _ _ _ _ refl refl
+
 configure-done : (e : Engine) (c : Config) → perform e (configureActs e c) ≡ configuredTo e c
-unfolding configureActs configuredTo reweighed switched offset perform act
+unfolding configureActs configuredTo perform act
 configure-done e c =
-    then e (reweighed e c) _ _ (choice e _ _ _ _ _ refl refl)
-    ∙ then (reweighed e c) (switched (reweighed e c) c) _ _ (choice (reweighed e c) _ _ _ _ _ refl refl)
-    ∙ then (switched (reweighed e c) c) (offset (switched (reweighed e c) c) (c .phase)) _ _ (choice (switched (reweighed e c) c) _ _ _ _ _ refl refl)
-    ∙ restart-done (withConfig (offset (switched (reweighed e c) c) (c .phase)) c) (e .config)
+    let weighed = reweighed e c in
+    let kind = switched weighed c in
+    let moved = offset kind (c .phase) in
+    then e weighed (weighActs e c) _ (weigh-done e c)
+    ∙ then weighed kind (switchActs weighed c) _ (switch-done weighed c)
+    ∙ then kind moved (offsetActs kind (c .phase)) _ (offset-done kind (c .phase))
+    ∙ restart-done (withConfig moved c) (e .config)
 
 checked-done : (a : Answer) (e : Engine) (c : Config) → perform e (checkedActs a e c) ≡ answeredBy a e c .engine
 unfolding perform
@@ -90,18 +111,23 @@ checked-done Taken e c = configure-done e (mendedOf c)
 checked-done (Refused r) e c = refl
 
 -- ---- triggers
+abbrev after : Triggered → Engine
+after t = t .engine
+
+outcome-engine : (e out : Engine) → out ≡ outcomeOf e out .engine
+outcome-engine e out = either (λ (t : Triggered). out ≡ t .engine) _ _ _ refl refl
+
 trigger-done : (e : Engine) (slot index : ℕ) → perform e (triggerActs e slot index) ≡ triggeredBy e slot index .engine
 unfolding triggerActs triggeredBy perform act
 trigger-done e slot index =
-    let engine : Triggered → Engine = λ t. t .engine in
-    answer engine e _ _ _ _ _ (answer engine e _ _ _ _ _ (either (λ (t : Triggered). bornOf e _ slot ≡ t .engine) _ _ _ refl refl) refl) refl
+    answer after e (ltb slot 256) _ _ _ _ (answer after e (isPermitted e slot) _ _ _ _ (outcome-engine e (bornOf e (bitXor index (2 ^ 63)) slot)) refl) refl
 
 -- ---- every call
 abbrev done : Done → Engine
 done d = d .engine
 
 pub calls-are-acts : (e : Engine) (c : Call) → perform e (actsOf e c) ≡ applied e c
-unfolding actsOf applied perform act configuredOf notesOf setSourceOf placedOf retireSourceOf releaseSourceOf triggeredOf reservedOf soughtOf advancedOf aligned
+unfolding actsOf applied perform act configuredOf notesOf setSourceOf placedOf retireSourceOf releaseSourceOf triggeredOf reservedOf soughtOf retiredAll aligned advancedOf
 calls-are-acts e (acts.configure c) = checked-done (checkedOf c) e c
 calls-are-acts e (acts.noteInput present) = refl
 calls-are-acts e (acts.setSource slot s) = answer done e _ _ _ _ _ (choice e _ _ _ _ _ refl (choice _ _ _ _ _ _ refl refl)) refl

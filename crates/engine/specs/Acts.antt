@@ -82,15 +82,18 @@ laneActs e lane reference = triedActs e lane reference ++ triedActs (triedOf e l
 unfoldable pub shapeActs : Shape → Engine → Float → List Act
 shapeActs Sprinkle e reference =
     let one = laneOf e 0 reference in
-    laneActs e 0 reference ++ laneActs one 1 reference ++ laneActs (laneOf one 1 reference) 2 reference
+    laneActs e 0 reference ++ (laneActs one 1 reference ++ laneActs (laneOf one 1 reference) 2 reference)
 shapeActs Cloud e reference =
     let index = e .next .opportunity in
     pick (le (referenceOf index) reference)
     (next (withOpportunity (e .next) (opportunityAfter index reference)) ∷ only (e .config .enabled) (birth index 256)) []
 
 -- births first, then the clock
+unfoldable pub deliverActs : Engine → List Act
+deliverActs e = pick (e .config .scheduled) (shapeActs (e .config .shape) e (referenceNow (e .clock))) []
+
 unfoldable pub sampleActs : Engine → List Act
-sampleActs e = pick (e .config .scheduled) (shapeActs (e .config .shape) e (referenceNow (e .clock))) [] ++ clock (tickedOf (deliveredOf e) .clock) ∷ []
+sampleActs e = deliverActs e ++ (clock (tickedOf (deliveredOf e) .clock) ∷ [])
 
 unfoldable pub advanceActs : ℕ → Engine → List Act
 advanceActs zero e = []
@@ -102,15 +105,22 @@ restartActs e old =
     pick (enters old (e .config)) (streams (alignedAll (referenceNow (e .clock)) (e .config .sync)) ∷ [])
     (pick (sameFlag (old .sync) (e .config .sync)) [] (streams (preparedAll (e .streams) (e .config .sync)) ∷ []))
 
+unfoldable pub weighActs : Engine → Config → List Act
+weighActs e c =
+    pick (eq (c .«partial_rolloff_db») (e .config .«partial_rolloff_db»)) [] (weights (weightsOf (e .prepared .«partial_logs») (c .«partial_rolloff_db»)) ∷ [])
+
+unfoldable pub switchActs : Engine → Config → List Act
+switchActs e c = pick (sameKind (e .config) c) [] (retire ∷ [])
+
+unfoldable pub offsetActs : Engine → Float → List Act
+offsetActs e phase = only (eqb (e .clock .sample) 0) (clock (offsetTo (e .clock) phase))
+
 unfoldable pub configureActs : Engine → Config → List Act
 configureActs e c =
     let weighed = reweighed e c in
     let kind = switched weighed c in
     let moved = offset kind (c .phase) in
-    pick (eq (c .«partial_rolloff_db») (e .config .«partial_rolloff_db»)) [] (weights (weightsOf (e .prepared .«partial_logs») (c .«partial_rolloff_db»)) ∷ [])
-    ++ pick (sameKind (weighed .config) c) [] (retire ∷ [])
-    ++ only (eqb (kind .clock .sample) 0) (clock (offsetTo (kind .clock) (c .phase)))
-    ++ settings c ∷ restartActs (withConfig moved c) (e .config)
+    weighActs e c ++ (switchActs weighed c ++ (offsetActs kind (c .phase) ++ (settings c ∷ restartActs (withConfig moved c) (e .config))))
 
 abbrev pub checkedActs : Answer → Engine → Config → List Act
 checkedActs Taken e c = configureActs e (mendedOf c)
