@@ -22,13 +22,13 @@ use Rattle.sources.specs.declared.Source.{Source}
 use Rattle.sources.specs.Sources.{noSource, same, sameFlag, isPitched, releasedOf}
 use Rattle.timing.specs.declared.SprinkleStream.{SprinkleStream}
 use Rattle.timing.specs.Streams.{preparedOf, alignedAll, referenceOf}
-use Rattle.engine.specs.declared.Clock.{Clock}
-use Rattle.engine.specs.declared.Done.{Done}
-use Rattle.engine.specs.declared.Engine.{Engine}
-use Rattle.engine.specs.declared.Next.{Next}
-use Rattle.engine.specs.State.{grown, taken, refused, withClock, withConfig, withNext, withParticles, withSources, withStreams, withWeights, pastSource, pastStream}
-use Rattle.engine.specs.Make.{weightsOf}
-use Rattle.engine.specs.Time.{referenceNow}
+use Rattle.state.specs.declared.Clock.{Clock}
+use Rattle.state.specs.declared.Done.{Done}
+use Rattle.state.specs.declared.Engine.{Engine}
+use Rattle.state.specs.declared.Next.{Next}
+use Rattle.state.specs.State.{grown, taken, refused, withClock, withConfig, withNext, withParticles, withSources, withStreams, withWeights, pastSource, pastStream}
+use Rattle.state.specs.Make.{weightsOf}
+use Rattle.delivery.specs.Sample.{referenceNow}
 
 -- fn retire_all
 unfoldable pub retiredAll : Engine → Engine

@@ -1,7 +1,4 @@
-pub mod State
-pub mod Make
-pub mod Birth
-pub mod Time
+pub mod New
+pub mod Advance
 pub mod Calls
 pub mod Triggers
-pub mod Acts

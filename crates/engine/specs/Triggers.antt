@@ -8,14 +8,14 @@ use Rattle.lists.specs.Pick.{pick}
 use Rattle.refusals.specs.declared.Refusal.the-variants.{Slot}
 use Rattle.refusals.specs.Numbers.{numberOf}
 use Rattle.sources.specs.Sources.{isEligible}
-use Rattle.engine.specs.declared.Engine.{Engine}
-use Rattle.engine.specs.declared.Next.{Next}
+use Rattle.state.specs.declared.Engine.{Engine}
+use Rattle.state.specs.declared.Next.{Next}
 use Rattle.engine.specs.declared.Outcome.{Outcome}
 use Rattle.engine.specs.declared.Outcome.the-variants.{Born, NotEligible, Dropped, Refused}
 use Rattle.engine.specs.declared.Reserved.{Reserved}
 use Rattle.engine.specs.declared.Triggered.{Triggered}
-use Rattle.engine.specs.State.{grown, withNext, pastSource}
-use Rattle.engine.specs.Birth.{bornOf}
+use Rattle.state.specs.State.{grown, withNext, pastSource}
+use Rattle.delivery.specs.Birth.{bornOf}
 use Rattle.engine.specs.Calls.{isSprinkle}
 
 -- 01's number of an outcome: 0 unless it is a refusal

@@ -2,17 +2,17 @@
 ghost use mathlib.Core.Path.{_≡_};
 ghost use Prim.Native.Nat.{_<_};
 ghost use Rattle.sources.specs.Sources.{sameFlag};
-ghost use Rattle.engine.specs.State.{taken, refused, withConfig};
+ghost use Rattle.state.specs.State.{taken, refused, withConfig};
 ghost use Rattle.engine.specs.Calls.{isSprinkle, sameShape, retiredAll, aligned, reweighed, sameKind, switched, offset, enters, preparedAll, restarted, configuredTo, configuredOf, notesOf, placedOf, setSourceOf, retireSourceOf, releaseSourceOf, soughtPhase, soughtOpportunity, soughtOf};
-use crate::Clock;
-use crate::Done;
-use crate::Engine;
-use crate::Next;
 use refusals::Answer;
 use refusals::Refusal;
 use settings::Config;
 use settings::Shape;
 use sources::Source;
+use state::Clock;
+use state::Done;
+use state::Engine;
+use state::Next;
 use timing::SprinkleStream;
 
 fn same_shape(a: Shape, b: Shape) -> bool
@@ -75,7 +75,7 @@ fn reweigh(engine: Engine, config: Config) -> Engine
     }
     let prepared = engine.prepared;
     let logs = prepared.partial_logs;
-    let weights = crate::make::weights(logs, config.partial_rolloff_db);
+    let weights = state::weights(logs, config.partial_rolloff_db);
     let mut out = engine;
     out.partial_weights = weights;
     out

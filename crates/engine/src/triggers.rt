@@ -2,11 +2,11 @@
 ghost use mathlib.Core.Path.{_≡_};
 ghost use Prim.Native.Nat.{_<_};
 ghost use Rattle.engine.specs.Triggers.{reservedOf, isPermitted, told, triggeredBy, triggeredOf};
-use crate::Engine;
 use crate::Outcome;
 use crate::Reserved;
 use crate::Triggered;
 use refusals::Refusal;
+use state::Engine;
 
 // An index is reserved when the note arrives, whatever becomes of it: overflow must not shift what
 // later notes draw.
@@ -51,7 +51,7 @@ pub fn trigger_reserved(engine: Engine, slot: usize, index: u64) -> Triggered
         return told(Outcome::Refused(Refusal::Slot), engine);
     }
     if permitted(engine, slot) {
-        let out = crate::birth::birth(engine, index ^ 9223372036854775808, slot);
+        let out = delivery::birth(engine, index ^ 9223372036854775808, slot);
         if out.tally.dropped == engine.tally.dropped {
             return told(Outcome::Born, out);
         }

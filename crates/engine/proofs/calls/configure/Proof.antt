@@ -1,7 +1,7 @@
 -- `configure` meets its contract: by what the check answers.
 use mathlib.Core.Path.{ap, _∙_}
 use Rattle.engine.specs.Calls.{configuredTo, configuredOf}
-use Rattle.engine.specs.State.{taken}
+use Rattle.state.specs.State.{taken}
 use borrow.Author.Needs.{needs}
 use Rattle.engine.proofs.calls.configure.Statement.{statement}
 use Rattle.engine.proofs.calls.configure.Tie as tie

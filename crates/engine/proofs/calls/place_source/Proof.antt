@@ -2,7 +2,7 @@
 use mathlib.Core.Path.{refl, sym, ap, _∙_}
 use Rattle.lists.specs.Pick.{took, skipped}
 use Rattle.engine.specs.Calls.{withSource, placedOf}
-use Rattle.engine.specs.State.{withParticles}
+use Rattle.state.specs.State.{withParticles}
 use borrow.Author.Needs.{needs}
 use Rattle.engine.proofs.calls.place_source.Statement.{statement}
 use Rattle.engine.proofs.calls.place_source.Tie as tie

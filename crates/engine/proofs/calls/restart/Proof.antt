@@ -2,7 +2,7 @@
 use mathlib.Core.Path.{refl, sym, ap, _∙_}
 use Rattle.lists.specs.Pick.{took, skipped}
 use Rattle.engine.specs.Calls.{restarted}
-use Rattle.engine.specs.State.{withStreams}
+use Rattle.state.specs.State.{withStreams}
 use borrow.Author.Needs.{needs}
 use Rattle.engine.proofs.calls.restart.Statement.{statement}
 use Rattle.engine.proofs.calls.restart.Tie as tie

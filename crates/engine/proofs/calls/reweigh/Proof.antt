@@ -2,7 +2,7 @@
 use mathlib.Core.Path.{refl, ap}
 use Rattle.lists.specs.Pick.{took, skipped}
 use Rattle.engine.specs.Calls.{reweighed}
-use Rattle.engine.specs.State.{withWeights}
+use Rattle.state.specs.State.{withWeights}
 use borrow.Author.Needs.{needs}
 use Rattle.engine.proofs.calls.reweigh.Statement.{statement}
 use Rattle.engine.proofs.calls.reweigh.Tie as tie

@@ -3,7 +3,7 @@ use mathlib.Core.Path.{refl, sym, ap, _∙_}
 use Rattle.lists.specs.Pick.{took, skipped}
 use borrow.Author.Tests.{lt-ltb, le-ltb}
 use Rattle.engine.specs.Calls.{setSourceOf}
-use Rattle.engine.specs.State.{taken}
+use Rattle.state.specs.State.{taken}
 use borrow.Author.Needs.{needs}
 use Rattle.engine.proofs.calls.set_source.Statement.{statement}
 use Rattle.engine.proofs.calls.set_source.Tie as tie

@@ -1,8 +1,9 @@
 -- `new_engine` meets its contract: a lawful rate, or 48,000.
 use mathlib.Core.Path.{sym, ap, _∙_}
 use Rattle.lists.specs.Pick.{took, skipped}
-use Rattle.engine.specs.Make.{newOn, newEngineOf}
-use Rattle.engine.specs.State.{taken, refused}
+use Rattle.state.specs.Make.{newOn}
+use Rattle.engine.specs.New.{newEngineOf}
+use Rattle.state.specs.State.{taken, refused}
 use Rattle.refusals.specs.declared.Refusal.the-variants.{Rate}
 use borrow.Author.Needs.{needs}
 use Rattle.engine.proofs.make.new_engine.Statement.{statement}

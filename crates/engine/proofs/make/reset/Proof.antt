@@ -1,5 +1,5 @@
 -- `reset` meets its contract: the callees' answers, put together.
-use Rattle.engine.specs.Make.{resetOf}
+use Rattle.engine.specs.New.{resetOf}
 use borrow.Author.Needs.{needs}
 use Rattle.engine.proofs.make.reset.Statement.{statement}
 use Rattle.engine.proofs.make.reset.Tie as tie

@@ -5,8 +5,9 @@ use mathlib.Core.Path.{_≡_, refl, ap, _∙_}
 use Rattle.lists.specs.Pick.{took, skipped}
 use Rattle.lists.specs.Times.{iterate, iterate-none, iterate-more}
 use borrow.Author.Tests.{le-leb, lt-leb}
-use Rattle.engine.specs.Time.{steppedOf, advancedOf}
-use Rattle.engine.specs.State.{taken}
+use Rattle.delivery.specs.Sample.{steppedOf}
+use Rattle.engine.specs.Advance.{advancedOf}
+use Rattle.state.specs.State.{taken}
 use borrow.Author.Needs.{needs}
 use Rattle.engine.proofs.time.advance.Statement.{statement}
 use Rattle.engine.proofs.time.advance.Tie as tie

@@ -1,0 +1,2 @@
+pub mod Birth
+pub mod Sample

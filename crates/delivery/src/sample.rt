@@ -1,0 +1,131 @@
+// One sample: it delivers its births, then moves the phase, the offset and the count.
+ghost use mathlib.Core.Path.{_≡_};
+ghost use Prim.Native.Nat.{_<_};
+ghost use Rattle.delivery.specs.Sample.{triedOf, laneOf, lanesOf, opportunityAfter, cloudOf, deliveredOf, glidedOf, tickedOf, steppedOf};
+use settings::Shape;
+use state::Clock;
+use state::Engine;
+
+// One try of a lane. Before the stream's next start it does nothing.
+fn try_lane(engine: Engine, lane: usize, reference: f64) -> Engine
+    requires { ⌜ lane < 3 ⌝ }
+    ensures { λ r. ⌜ r ≡ triedOf engine lane reference ⌝ }
+{
+    let config = engine.config;
+    let streams = engine.streams;
+    let stream = streams[lane];
+    if reference < stream.next {
+        return engine;
+    }
+    let moved = timing::move_on(stream, lane, reference, config.sync);
+    let mut out = engine;
+    out.streams[lane] = moved;
+    if stream.emit {
+        if config.enabled {
+            return crate::birth(
+                out,
+                draws::sprinkle_key(lane, stream.index),
+                sources::MAX_SOURCES,
+            );
+        }
+    }
+    out
+}
+
+// A pair may start together; no backlog is kept.
+fn deliver_lane(engine: Engine, lane: usize, reference: f64) -> Engine
+    requires { ⌜ lane < 3 ⌝ }
+    ensures { λ r. ⌜ r ≡ laneOf engine lane reference ⌝ }
+{
+    let once = try_lane(engine, lane, reference);
+    try_lane(once, lane, reference)
+}
+
+fn lanes(engine: Engine, reference: f64) -> Engine
+    ensures { λ r. ⌜ r ≡ lanesOf engine reference ⌝ }
+{
+    let first = deliver_lane(engine, 0, reference);
+    let second = deliver_lane(first, 1, reference);
+    deliver_lane(second, 2, reference)
+}
+
+fn opportunity_after(opportunity: u64, reference: f64) -> u64
+    ensures { λ r. ⌜ r ≡ opportunityAfter opportunity reference ⌝ }
+{
+    let after = std::num::wrapping_add_u64(opportunity, 1);
+    let whole = floats::f64_to_u64(floats::max64(floats::floor64(reference), 0.0));
+    if after < whole {
+        return whole;
+    }
+    after
+}
+
+fn cloud(engine: Engine, reference: f64) -> Engine
+    ensures { λ r. ⌜ r ≡ cloudOf engine reference ⌝ }
+{
+    let config = engine.config;
+    let index = engine.next.opportunity;
+    if reference >= timing::timing_reference(index) {
+        let after = opportunity_after(index, reference);
+        let mut out = engine;
+        out.next.opportunity = after;
+        if config.enabled {
+            return crate::birth(out, index, sources::MAX_SOURCES);
+        }
+        return out;
+    }
+    engine
+}
+
+fn deliver(engine: Engine) -> Engine
+    ensures { λ r. ⌜ r ≡ deliveredOf engine ⌝ }
+{
+    let config = engine.config;
+    let shape = config.shape;
+    let reference = engine.clock.phase + engine.clock.phase_offset;
+    if config.scheduled {
+        return match shape {
+            Shape::Sprinkle => lanes(engine, reference),
+            Shape::Cloud => cloud(engine, reference),
+        };
+    }
+    engine
+}
+
+// The offset glides to the setting by the shorter way.
+fn glide(phase_offset: f64, phase: f32, alpha: f64) -> f64
+    ensures { λ r. ⌜ r ≡ glidedOf «phase_offset» phase alpha ⌝ }
+{
+    let to = floats::f32_to_f64(phase) - phase_offset + 0.5;
+    let difference = floats::rem_euclid64(to, 1.0) - 0.5;
+    phase_offset + difference * alpha
+}
+
+fn tick(engine: Engine) -> Engine
+    ensures { λ r. ⌜ r ≡ tickedOf engine ⌝ }
+{
+    let config = engine.config;
+    let clock = engine.clock;
+    let step = floats::f32_to_f64(config.rate_hz) / engine.prepared.sample_rate;
+    let phase = floats::pick64(config.scheduled, clock.phase + step, clock.phase);
+    let phase_offset = glide(
+        clock.phase_offset,
+        config.phase,
+        engine.prepared.phase_alpha,
+    );
+    let sample = std::num::wrapping_add_u64(clock.sample, 1);
+    let moved = Clock {
+        sample,
+        phase,
+        phase_offset,
+    };
+    let mut out = engine;
+    out.clock = moved;
+    out
+}
+
+pub fn step(engine: Engine) -> Engine
+    ensures { λ r. ⌜ r ≡ steppedOf engine ⌝ }
+{
+    tick(deliver(engine))
+}

@@ -1,0 +1,109 @@
+-- A birth leaves an engine as sound as it was: the chosen slot is one of 256 or none, the newborn is fit, and 64 attempts are not passed.
+use Prim.Native.Nat.{ℕ, suc, _+_, _-_, _≤_}
+use native.Mathlib.Nat.{le-refl, le-trans}
+use native.Mathlib.Omega.{arith}
+use mathlib.Core.Path.{_≡_, refl, sym, ap, _∙_, subst}
+use mathlib.Core.Bool.{Bool, true, false}
+use mathlib.Core.List.{List, [], _∷_}
+use borrow.Author.Tests.{ltb-true, eqb-false, ne-eqb}
+use lib.Dec.{ltb, eqb}
+use lib.ListN.{length, set, length-set}
+use lib.Ieee.{Float}
+use Rattle.lists.specs.Pick.{pick, either, by-case}
+use Rattle.pool.specs.declared.Particle.{Particle}
+use Rattle.sources.specs.declared.Source.{Source}
+use Rattle.sources.specs.Sources.{nthFrom, alternativesOf, choiceOf, chosenOf}
+use Rattle.state.specs.declared.Engine.{Engine}
+use Rattle.state.specs.declared.Next.{Next}
+use Rattle.state.specs.declared.Tally.{Tally}
+use Rattle.state.specs.State.{grown, withNext, withParticles, withTally}
+use Rattle.delivery.specs.Birth.{chosenFor, withLast, droppedOne, triedOne, bornOne, newbornFor, settledAt, admittedOf, isBarred, attemptedOf, bornOf}
+use Rattle.runs.proofs.Every.{Every, every-set, in-case}
+use Rattle.runs.proofs.Sound.{Sound, Held, engine-newborn}
+
+-- ---- the slot
+nth-most : (last i : ℕ) (ss : List Source) (n : ℕ) → nthFrom last i ss n ≤ i + length ss
+unfolding nthFrom
+nth-most last i [] n = omega arith
+nth-most last i (s ∷ ss) n =
+    either (λ (k : ℕ). k ≤ i + suc (length ss)) _ _ _
+    (either (λ (k : ℕ). k ≤ i + suc (length ss)) _ _ _ (omega arith) (let h = nth-most last (suc i) ss (n - 1) in omega arith))
+    (let h = nth-most last (suc i) ss n in omega arith)
+
+pub chosen-most : (last : ℕ) (ss : List Source) (draw : Float) → length ss ≡ 256 → chosenOf last ss draw ≤ 256
+unfolding chosenOf
+chosen-most last ss draw l =
+    either (λ (k : ℕ). k ≤ 256) _ _ _ (let h = nth-most 256 0 ss 0 in omega (arith, l)) (let h = nth-most last 0 ss (choiceOf draw (alternativesOf last ss)) in omega (arith, l))
+
+pub slot-most : (e : Engine) (index own : ℕ) → Sound e → chosenFor e index own ≤ 256
+unfolding chosenFor
+slot-most e index own s =
+    in-case (λ (k : ℕ). k ≤ 256) (ltb own 256) own _ (λ q. let h = ltb-true own 256 q in omega arith) (λ q. chosen-most _ _ _ (s .slots))
+
+-- ---- the counters and the choice
+pub sound-next : (e : Engine) (n : Next) → Sound e → n .«last_source» ≤ 256 → Sound (withNext e n)
+sound-next e n s h =
+    record {
+      made = s .made;
+      settled = s .settled;
+      tried = s .tried;
+      last = h;
+      time = s .time;
+      places = s .places;
+      slots = s .slots;
+      held = s .held;
+    }
+
+pub sound-tally : (e : Engine) (t : Tally) → Sound e → t .attempts ≤ 64 → Sound (withTally e t)
+sound-tally e t s h =
+    record {
+      made = s .made;
+      settled = s .settled;
+      tried = h;
+      last = s .last;
+      time = s .time;
+      places = s .places;
+      slots = s .slots;
+      held = s .held;
+    }
+
+pub sound-particles : (e : Engine) (ps : List Particle) → Sound e → length ps ≡ 64 → Every (Held (e .clock .sample)) ps → Sound (withParticles e ps)
+sound-particles e ps s l h =
+    record {
+      made = s .made;
+      settled = s .settled;
+      tried = s .tried;
+      last = s .last;
+      time = s .time;
+      places = l;
+      slots = s .slots;
+      held = h;
+    }
+
+-- ---- the birth
+sound-admitted : (e : Engine) (index slot : ℕ) → Sound e → slot ≤ 256 → Sound (admittedOf e index slot)
+unfolding admittedOf bornOne
+sound-admitted e index slot s h =
+    either Sound _ _ _
+    (sound-tally (withParticles e (set (e .particles) _ (newbornFor e index slot))) _
+    (sound-particles e (set (e .particles) _ (newbornFor e index slot)) s (length-set (e .particles) _ _ ∙ s .places)
+    (every-set (Held (e .clock .sample)) (e .particles) _ (newbornFor e index slot) (λ a. engine-newborn e index slot s h) (s .held)))
+    (s .tried))
+    (sound-tally e _ s (s .tried))
+
+one-more : (n : ℕ) → n ≤ 64 → (n ≡ 64 → ⊥) → grown n ≤ 64
+one-more n h d = omega arith
+
+sound-attempted : (e : Engine) (index slot : ℕ) → Sound e → slot ≤ 256 → Sound (attemptedOf e index slot)
+unfolding attemptedOf
+sound-attempted e index slot s h =
+    in-case Sound (eqb (e .tally .attempts) 64) _ _ (λ q. sound-tally e _ s (s .tried))
+    (λ q.
+    let t = sound-tally e (triedOne (e .tally)) s (one-more (e .tally .attempts) (s .tried) (eqb-false (e .tally .attempts) 64 q)) in
+    either Sound _ _ _ t (sound-admitted (withTally e (triedOne (e .tally))) index slot t h))
+
+pub sound-born : (e : Engine) (index own : ℕ) → Sound e → Sound (bornOf e index own)
+unfolding bornOf
+sound-born e index own s =
+    let h = slot-most e index own s in
+    sound-attempted (withNext e (withLast (e .next) (chosenFor e index own))) index (chosenFor e index own) (sound-next e (withLast (e .next) (chosenFor e index own)) s h) h

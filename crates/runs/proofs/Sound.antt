@@ -1,0 +1,146 @@
+-- What `new` and our calls keep true of an engine, and that a newborn particle keeps to it.
+use Prim.Native.Nat.{ℕ, zero, suc, _+_, _^_, _≤_, _<_, zero-le}
+use native.Mathlib.Nat.{le-refl, le-trans}
+use native.Mathlib.Omega.{arith}
+use mathlib.Core.Path.{_≡_, refl, sym, ap, _∙_, subst}
+use mathlib.Core.Bool.{Bool, true, false, true≢false}
+use mathlib.Core.Logic.{_⊎_, inl, inr}
+use mathlib.Core.List.{List, [], _∷_}
+use borrow.Author.Tests.{ltb-true, ltb-false}
+use lib.Dec.{T, ltb, lit≤}
+use lib.ListN.{length, getD}
+use lib.Ieee.{Float, fin, inf, nan, Format, binary32, fits, lt, le}
+use lib.Ieee.Scale.{finite}
+use Rattle.lists.specs.Pick.{pick, either, by-case}
+use Rattle.floats.specs.Convert.{convert}
+use Rattle.floats.proofs.Rising.{nought}
+use Rattle.floats.proofs.Values.{own-round}
+use Rattle.births.specs.declared.Voice.{Voice}
+use Rattle.births.specs.Births.{rate32, maxHzOf, registerBy, partialsBy, freeVoiceOf, sourceVoiceOf, newbornOf}
+use Rattle.pitch.specs.Partials.{partialsOf}
+use Rattle.pitch.proofs.Harmonics.{Picks, picks-lawful}
+use Rattle.pool.specs.declared.Particle.{Particle}
+use Rattle.pool.specs.declared.Retired.{Retired}
+use Rattle.pool.specs.declared.Retired.the-variants.{Not, At}
+use Rattle.settings.specs.declared.Config.{Config}
+use Rattle.settings.specs.declared.Shape.{Shape}
+use Rattle.settings.specs.declared.Shape.the-variants.{Sprinkle, Cloud}
+use Rattle.settings.specs.Envelope.{envelopeOf}
+use Rattle.settings.specs.Mending.{maxHop, lawfulRate, mendedOf}
+use Rattle.settings.proofs.Lifetimes as lifetimes
+use Rattle.settings.proofs.Lifetimes.{Formed, ten, envelope-sound}
+use Rattle.state.specs.declared.Engine.{Engine}
+use Rattle.state.specs.declared.Prepared.{Prepared}
+use Rattle.delivery.specs.Birth.{voiceFor, newbornFor}
+use Rattle.state.specs.Make.{preparedOf}
+use Rattle.runs.proofs.Every.{Every, in-case}
+
+-- ---- the terms
+-- one of three harmonics, or none
+pub record Harmonics (ps : List ℕ) : Type 0 where
+  pub three : length ps ≡ 3
+  pub each : (k : ℕ) → getD ps k 0 ≤ 24
+
+-- of a particle that holds a place, at the sample `now`
+pub record Fit (now : ℕ) (p : Particle) : Type 0 where
+  pub born : p .birth ≤ now
+  pub retired : (t : ℕ) → p .retirement ≡ At t → (p .birth ≤ t) × (t ≤ now)
+  pub above : T (lt nought (p .lifetime))
+  pub most : T (le (p .lifetime) ten)
+  pub slot : p .source ≤ 256
+  pub harmonics : Harmonics (p .partials)
+
+abbrev pub Held : ℕ → Particle → Type 0
+Held now p = p .active ≡ true → Fit now p
+
+-- settings that `configure` has mended, with a lawful hop
+pub record Settled (c : Config) : Type 0 where
+  pub asked : Config
+  pub formed : Formed asked
+  pub hop : asked .«hop_samples» ≤ maxHop
+  pub is : c ≡ mendedOf asked
+
+-- what follows from a lawful rate
+pub record Made (p : Prepared) : Type 0 where
+  pub single : T (fits binary32 (p .«sample_rate»))
+  pub lawful : T (lawfulRate (p .«sample_rate»))
+  pub is : p ≡ preparedOf (p .«sample_rate»)
+
+pub record Sound (e : Engine) : Type 0 where
+  pub made : Made (e .prepared)
+  pub settled : Settled (e .config)
+  pub tried : e .tally .attempts ≤ 64
+  pub last : e .next .«last_source» ≤ 256
+  pub time : e .clock .sample ≤ 2 ^ 40
+  pub places : length (e .particles) ≡ 64
+  pub slots : length (e .sources) ≡ 256
+  pub held : Every (Held (e .clock .sample)) (e .particles)
+
+-- ---- time goes on
+pub fit-later : (now later : ℕ) → now ≤ later → (p : Particle) → Held now p → Held later p
+fit-later now later h p f a =
+    let s = f a in
+    record {
+      born = le-trans (s .born) h;
+      retired = λ t r. (s .retired t r .0, le-trans (s .retired t r .1) h);
+      above = s .above;
+      most = s .most;
+      slot = s .slot;
+      harmonics = s .harmonics;
+    }
+
+-- ---- a newborn
+pub own-convert : (f : Format) (x : Float) → T (fits f x) → convert f x ≡ x
+unfolding convert
+own-convert f nan h = refl
+own-convert f (inf s) h = refl
+own-convert f (fin s m e) h = own-round f s m e h
+
+abbrev isAt : Retired → Bool
+isAt Not = false
+isAt (At t) = true
+
+one-harmonic : Harmonics (1 ∷ 0 ∷ 0 ∷ [])
+one-harmonic = record { three = refl; each = each }
+  where
+    each : (k : ℕ) → getD {A = ℕ} (1 ∷ 0 ∷ 0 ∷ []) k 0 ≤ 24
+    each zero = lit≤ tt
+    each (suc zero) = zero-le
+    each (suc (suc zero)) = zero-le
+    each (suc (suc (suc k))) = zero-le
+
+picked-harmonics : (limit : ℕ) (ratio : Float) (weights : List Float) (ps : List ℕ) → Picks limit ratio weights ps → Harmonics ps
+picked-harmonics limit ratio weights ps w = record { three = w .three; each = each }
+  where
+    each : (k : ℕ) → getD ps k 0 ≤ 24
+    each k = by-case (ltb 0 (getD ps k 0)) (λ q. w .each k (ltb-true _ _ q) .most) (λ q. le-trans (ltb-false _ _ q) zero-le)
+
+pub partials-harmonics : (shape : Shape) (index : ℕ) (weights : List Float) (limit : ℕ) (hz octave maxHz : Float) → Harmonics (partialsBy shape index weights limit hz octave maxHz)
+unfolding partialsBy
+partials-harmonics Sprinkle index weights limit hz octave maxHz = picked-harmonics limit _ weights _ (picks-lawful index weights limit _)
+partials-harmonics Cloud index weights limit hz octave maxHz = one-harmonic
+
+pub newborn-fit : (index : ℕ) (voice : Voice) (config : Config) (rate : Float) (sample : ℕ) (weights : List Float)
+    → Settled config → T (fits binary32 rate) → T (lawfulRate rate) → voice .slot ≤ 256 → Fit sample (newbornOf index voice config rate sample weights)
+unfolding newbornOf
+newborn-fit index voice config rate sample weights s f l v =
+    let e : envelopeOf config index (rate32 rate) ≡ envelopeOf (mendedOf (s .asked)) index rate = ap (λ (c : Config). envelopeOf c index (rate32 rate)) (s .is) ∙ ap (envelopeOf (mendedOf (s .asked)) index) (own-convert binary32 rate f) in
+    let w = subst lifetimes.Sound (sym e) (envelope-sound (s .asked) index rate (s .formed) (s .hop) l) in
+    record {
+      born = le-refl sample;
+      retired = λ t r. absurd (true≢false (sym (ap isAt r)));
+      above = w .above;
+      most = w .most;
+      slot = v;
+      harmonics = partials-harmonics _ _ _ _ _ _ _;
+    }
+
+voice-slot : (e : Engine) (index slot : ℕ) → slot ≤ 256 → voiceFor e index slot .slot ≤ 256
+unfolding voiceFor sourceVoiceOf freeVoiceOf
+voice-slot e index slot h = either (λ (v : Voice). v .slot ≤ 256) _ _ _ h (le-refl 256)
+
+pub engine-newborn : (e : Engine) (index slot : ℕ) → Sound e → slot ≤ 256 → Fit (e .clock .sample) (newbornFor e index slot)
+unfolding newbornFor
+engine-newborn e index slot s h =
+    newborn-fit index (voiceFor e index slot) (e .config) (e .prepared .«sample_rate») (e .clock .sample) (e .«partial_weights»)
+    (s .settled) (s .made .single) (s .made .lawful) (voice-slot e index slot h)

@@ -1,0 +1,240 @@
+-- Every other call leaves an engine as sound as it was, and `new` and `reset` make a sound one.
+use Prim.Native.Nat.{ℕ, _^_, _≤_, _<_}
+use native.Mathlib.Nat.{le-refl}
+use native.Mathlib.Omega.{arith}
+use mathlib.Core.Path.{_≡_, refl, sym, ap, _∙_, subst}
+use mathlib.Core.Bool.{Bool, true, false, _&&_, true≢false}
+use mathlib.Core.List.{List, map}
+use borrow.Author.Tests.{ltb-true, ltb-false}
+use lib.Dec.{T, ltb, lit≤}
+use lib.ListN.{length, length-map, length-set}
+use lib.Ieee.{Float, binary32, fits, ofBits, ofFields, rem, add, sum, round, le, lt, eq, odd}
+use lib.Ieee.Bits.{ofBits-fits}
+use Rattle.lists.specs.Pick.{pick, either, by-case}
+use Rattle.floats.specs.Names.{f32}
+use Rattle.floats.specs.Choose.{clamp, abs}
+use Rattle.floats.specs.Remainder.{remEuclid}
+use Rattle.pool.specs.declared.Particle.{Particle}
+use Rattle.pool.specs.declared.Retired.{Retired}
+use Rattle.pool.specs.declared.Retired.the-variants.{Not, At}
+use Rattle.pool.specs.Pool.{freeParticle, firstOf, retiredOf, retireOne, retireBoundOne, retunedOf, retuneOne}
+use Rattle.refusals.specs.declared.Answer.{Answer}
+use Rattle.refusals.specs.declared.Answer.the-variants.{Taken, Refused}
+use Rattle.settings.specs.declared.Config.{Config}
+use Rattle.settings.specs.Mending.{maxHop, defaultConfig, checkedOf, lawfulRate, finiteOr, heldTo, partialsOf, phaseOf, mendedOf}
+use Rattle.settings.proofs.Lifetimes.{Formed}
+use Rattle.sources.specs.declared.Source.{Source}
+use Rattle.state.specs.declared.Done.{Done}
+use Rattle.state.specs.declared.Engine.{Engine}
+use Rattle.state.specs.declared.Prepared.{Prepared}
+use Rattle.engine.specs.declared.Triggered.{Triggered}
+use Rattle.state.specs.State.{withConfig, withParticles, withSources, withWeights}
+use Rattle.state.specs.Make.{preparedOf, noParticles, noSources, newOn}
+use Rattle.engine.specs.New.{newEngineOf, resetOf}
+use Rattle.engine.specs.Calls.{retiredAll, aligned, reweighed, switched, offset, restarted, configuredTo, answeredBy, configuredOf, withNotes, notesOf, withSource, placedOf, setSourceOf, retireSourceOf, releaseSourceOf, soughtNext, soughtClock, soughtOf}
+use Rattle.engine.specs.Triggers.{withIndex, reservedOf, triggeredBy, triggeredOf}
+use Rattle.runs.proofs.Every.{Every, every-map, every-replicate, in-case}
+use Rattle.runs.proofs.Sound.{Fit, Held, Settled, Made, Sound}
+use Rattle.runs.proofs.Chosen.{sound-next, sound-particles, sound-born}
+use Rattle.runs.proofs.Steps.{sound-streams, sound-clock}
+
+-- ---- one group
+sound-config : (e : Engine) (c : Config) → Sound e → Settled c → Sound (withConfig e c)
+sound-config e c s h =
+    record {
+      made = s .made;
+      settled = h;
+      tried = s .tried;
+      last = s .last;
+      time = s .time;
+      places = s .places;
+      slots = s .slots;
+      held = s .held;
+    }
+
+sound-weights : (e : Engine) (ws : List Float) → Sound e → Sound (withWeights e ws)
+sound-weights e ws s =
+    record {
+      made = s .made;
+      settled = s .settled;
+      tried = s .tried;
+      last = s .last;
+      time = s .time;
+      places = s .places;
+      slots = s .slots;
+      held = s .held;
+    }
+
+sound-source : (e : Engine) (slot : ℕ) (x : Source) → Sound e → Sound (withSource e slot x)
+sound-source e slot x s =
+    record {
+      made = s .made;
+      settled = s .settled;
+      tried = s .tried;
+      last = s .last;
+      time = s .time;
+      places = s .places;
+      slots = length-set (e .sources) slot x ∙ s .slots;
+      held = s .held;
+    }
+
+-- ---- retirement and a new pitch
+at-of : (a b : ℕ) → At a ≡ At b → a ≡ b
+at-of a b p = ap (λ (r : Retired). firstOf r 0) p
+
+first-in : (birth now : ℕ) (r : Retired) → birth ≤ now → ((t : ℕ) → r ≡ At t → (birth ≤ t) × (t ≤ now)) → (birth ≤ firstOf r now) × (firstOf r now ≤ now)
+first-in birth now Not h k = (h, le-refl now)
+first-in birth now (At t) h k = k t refl
+
+fit-retired : (now : ℕ) (p : Particle) → Fit now p → Fit now (retiredOf now p)
+unfolding retiredOf
+fit-retired now p f =
+    let w = first-in (p .birth) now (p .retirement) (f .born) (f .retired) in
+    record {
+      born = f .born;
+      retired = λ t r. subst (λ (k : ℕ). (p .birth ≤ k) × (k ≤ now)) (at-of _ t r) w;
+      above = f .above;
+      most = f .most;
+      slot = le-refl 256;
+      harmonics = f .harmonics;
+    }
+
+retired-active : (now : ℕ) (p : Particle) → retiredOf now p .active ≡ p .active
+unfolding retiredOf
+retired-active now p = refl
+
+-- what is retired was held
+held-retired : (now : ℕ) (p : Particle) → Held now p → Held now (retiredOf now p)
+held-retired now p f a = fit-retired now p (f (sym (retired-active now p) ∙ a))
+
+held-retire-one : (now : ℕ) (p : Particle) → Held now p → Held now (retireOne now p)
+unfolding retireOne
+held-retire-one now p f = either (Held now) _ _ _ (held-retired now p f) f
+
+held-retire-bound : (slot now : ℕ) (p : Particle) → Held now p → Held now (retireBoundOne slot now p)
+unfolding retireBoundOne
+held-retire-bound slot now p f = either (Held now) _ _ _ (either (Held now) _ _ _ (held-retired now p f) f) f
+
+held-retuned : (now : ℕ) (hz : Float) (p : Particle) → Held now p → Held now (retunedOf hz p)
+unfolding retunedOf
+held-retuned now hz p f a =
+    let s = f a in
+    record { born = s .born; retired = s .retired; above = s .above; most = s .most; slot = s .slot; harmonics = s .harmonics }
+
+held-retune-one : (slot now : ℕ) (hz : Float) (p : Particle) → Held now p → Held now (retuneOne slot hz p)
+unfolding retuneOne
+held-retune-one slot now hz p f = either (Held now) _ _ _ (either (Held now) _ _ _ (held-retuned now hz p f) f) f
+
+-- every place by one function
+sound-mapped : (e : Engine) (g : Particle → Particle) → Sound e → ((p : Particle) → Held (e .clock .sample) p → Held (e .clock .sample) (g p)) → Sound (withParticles e (map g (e .particles)))
+sound-mapped e g s h =
+    sound-particles e (map g (e .particles)) s (length-map (e .particles) g ∙ s .places)
+    (every-map (Held (e .clock .sample)) (Held (e .clock .sample)) g h (e .particles) (s .held))
+
+sound-retired : (e : Engine) → Sound e → Sound (retiredAll e)
+unfolding retiredAll
+sound-retired e s = sound-mapped e _ s (held-retire-one (e .clock .sample))
+
+-- ---- new and reset
+default-mended : defaultConfig ≡ mendedOf defaultConfig
+unfolding mendedOf heldTo finiteOr phaseOf partialsOf remEuclid clamp rem add sum round ofBits lt eq abs pick
+default-mended = refl
+
+sound-on : (p : Prepared) → Made p → Sound (newOn p)
+unfolding newOn noParticles noSources freeParticle
+sound-on p m =
+    record {
+      made = m;
+      settled = record { asked = defaultConfig; formed = record { rate = ofBits-fits binary32 0x3f800000; size = ofBits-fits binary32 0x3f800000 }; hop = lit≤ tt; is = default-mended };
+      tried = lit≤ tt;
+      last = le-refl 256;
+      time = lit≤ tt;
+      places = refl;
+      slots = refl;
+      held = every-replicate (Held 0) 64 freeParticle (λ a. absurd (true≢false (sym a)));
+    }
+
+made-of : (rate : Float) → T (fits binary32 rate) → T (lawfulRate rate) → Made (preparedOf rate)
+unfolding preparedOf
+made-of rate f l = record { single = f; lawful = l; is = refl }
+
+lawful-48000 : T (lawfulRate (f32 0x473b8000))
+unfolding lawfulRate le lt eq ofBits ofFields odd
+lawful-48000 = tt
+
+pub sound-new : (rate : Float) → T (fits binary32 rate) → Sound (newEngineOf rate .engine)
+unfolding newEngineOf
+sound-new rate f =
+    in-case (λ (d : Done). Sound (d .engine)) (lawfulRate rate) _ _ (λ q. sound-on (preparedOf rate) (made-of rate f (subst T (sym q) tt)))
+    (λ q. sound-on (preparedOf (f32 0x473b8000)) (made-of (f32 0x473b8000) (ofBits-fits binary32 0x473b8000) lawful-48000))
+
+pub sound-reset : (e : Engine) → Sound e → Sound (resetOf e)
+unfolding resetOf
+sound-reset e s = sound-on (e .prepared) (s .made)
+
+-- ---- configure, of a config whose floats are f32s
+sound-aligned : (e : Engine) → Sound e → Sound (aligned e)
+unfolding aligned
+sound-aligned e s = sound-streams e _ s
+
+sound-configured-to : (e : Engine) (c : Config) → Sound e → Settled c → Sound (configuredTo e c)
+unfolding configuredTo restarted offset switched reweighed
+sound-configured-to e c s h =
+    let w = either Sound _ _ _ s (sound-weights e _ s) in
+    let k = either Sound _ _ _ w (sound-retired _ w) in
+    let o = either Sound _ _ _ (sound-clock _ _ k (le-refl _) (k .time)) k in
+    let n = sound-config _ c o h in
+    either Sound _ _ _ (sound-aligned _ n) (either Sound _ _ _ n (sound-streams _ _ n))
+
+pub sound-configured : (e : Engine) (c : Config) → Formed c → Sound e → Sound (configuredOf e c .engine)
+unfolding configuredOf checkedOf
+sound-configured e c f s =
+    in-case (λ (a : Answer). Sound (answeredBy a e c .engine)) (ltb maxHop (c .«hop_samples»)) _ _ (λ q. s)
+    (λ q. sound-configured-to e (mendedOf c) s (record { asked = c; formed = f; hop = ltb-false _ _ q; is = refl }))
+
+-- ---- the sources
+pub sound-notes : (e : Engine) (present : Bool) → Sound e → Sound (notesOf e present)
+unfolding notesOf
+sound-notes e present s = sound-next e (withNotes (e .next) present) s (s .last)
+
+sound-placed : (e : Engine) (slot : ℕ) (x : Source) → Sound e → Sound (placedOf e slot x)
+unfolding placedOf
+sound-placed e slot x s =
+    either Sound _ _ _ (sound-mapped (withSource e slot x) (retuneOne slot (x .«frequency_hz»)) (sound-source e slot x s) (held-retune-one slot (e .clock .sample) (x .«frequency_hz»)))
+    (sound-source e slot x s)
+
+pub sound-set-source : (e : Engine) (slot : ℕ) (x : Source) → Sound e → Sound (setSourceOf e slot x .engine)
+unfolding setSourceOf
+sound-set-source e slot x s = either (λ (d : Done). Sound (d .engine)) _ _ _ (either Sound _ _ _ s (sound-placed e slot x s)) s
+
+pub sound-retire-source : (e : Engine) (slot : ℕ) → Sound e → Sound (retireSourceOf e slot .engine)
+unfolding retireSourceOf
+sound-retire-source e slot s =
+    either (λ (d : Done). Sound (d .engine)) _ _ _
+    (sound-mapped (withSource e slot _) (retireBoundOne slot (e .clock .sample)) (sound-source e slot _ s) (held-retire-bound slot (e .clock .sample))) s
+
+pub sound-release-source : (e : Engine) (slot : ℕ) → Sound e → Sound (releaseSourceOf e slot .engine)
+unfolding releaseSourceOf
+sound-release-source e slot s = either (λ (d : Done). Sound (d .engine)) _ _ _ (sound-source e slot _ s) s
+
+-- ---- seek
+pub sound-sought : (e : Engine) (cycles : Float) → Sound e → Sound (soughtOf e cycles)
+unfolding soughtOf retiredAll
+sound-sought e cycles s =
+    let r = sound-mapped e _ s (held-retire-one (e .clock .sample)) in
+    sound-aligned _ (sound-next _ (soughtNext e (soughtClock e cycles)) (sound-clock _ (soughtClock e cycles) r (le-refl _) (s .time)) (le-refl 256))
+
+-- ---- triggers
+pub sound-reserved : (e : Engine) → Sound e → Sound (reservedOf e .engine)
+unfolding reservedOf
+sound-reserved e s = sound-next e _ s (s .last)
+
+pub sound-triggered-by : (e : Engine) (slot index : ℕ) → Sound e → Sound (triggeredBy e slot index .engine)
+unfolding triggeredBy
+sound-triggered-by e slot index s =
+    let P : Triggered → Type 0 = λ t. Sound (t .engine) in
+    either P _ _ _ (either P _ _ _ (either P _ _ _ (sound-born _ _ _ s) (sound-born _ _ _ s)) s) s
+
+pub sound-triggered : (e : Engine) (slot : ℕ) → Sound e → Sound (triggeredOf e slot .engine)
+unfolding triggeredOf
+sound-triggered e slot s = sound-triggered-by (reservedOf e .engine) slot _ (sound-reserved e s)
