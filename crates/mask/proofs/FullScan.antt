@@ -16,7 +16,7 @@ use Rattle.lists.specs.Pick.{by-case}
 use Rattle.lists.specs.Walk.{walk}
 use Rattle.floats.specs.Choose.{max, clamp, abs}
 use Rattle.floats.proofs.Choosing.{max-fits, clamp-fits, clamp-most}
-use Rattle.floats.proofs.Ends.{not-above}
+use Rattle.floats.proofs.Ends.{not-above, not-le→lt}
 use Rattle.floats.proofs.Gap.{quotient-number, one-number}
 use Rattle.floats.proofs.Products.{product-to-zero}
 use Rattle.floats.proofs.Rising.{nought}
@@ -27,7 +27,7 @@ use Rattle.windows.specs.Opening.{nil, one, taperOf, insideOf, opennessOf, open
 use Rattle.windows.proofs.Tapered.{taper-finite}
 use Rattle.mask.specs.Gains.{lawfulLogs, touches, raisedOf, raising, openAt}
 use Rattle.mask.proofs.Ordered.{all-finite}
-use Rattle.mask.proofs.Shut.{zero-fits, not-le→lt, shut}
+use Rattle.mask.proofs.Shut.{zero-fits, shut}
 
 -- a window of floats that f32 holds, all finite
 pub record Finite (w : Window) : Type 0 where
@@ -98,7 +98,7 @@ module _ (w : Window) (log : Float) (F : Finite w) (fl : T (fits binary32 log)) 
 
   above : (x : Float) → T (fits binary32 x) → T (finite x) → le x nil ≡ false → T (lt nought x)
   unfolding ofBits
-  above x p u e = passes _ (not-le→lt x nought p (zero-fits false) (finite-number binary32 x u) (finite-number binary32 nought tt) e)
+  above x p u e = passes _ (not-le→lt binary32 x nought p (zero-fits false) (finite-number binary32 x u) (finite-number binary32 nought tt) e)
 
   inside-number : T (lt nought r) → T (not (isNan (insideOf w log)))
   unfolding insideOf ofBits sub
