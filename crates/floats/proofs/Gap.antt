@@ -16,6 +16,7 @@ use Rattle.floats.proofs.Mono.{signedKey, signed-key-rises, round-signe
 use Rattle.floats.proofs.Rules.{key→le, add-number, neg-finite, finite-number, le-right}
 use Rattle.floats.proofs.Rising.{nought, not-above, not-itself, div-rises, sub-falls}
 use Rattle.floats.proofs.Floor.{round-number}
+use Rattle.floats.proofs.Units.{one, one-fits}
 
 -- a value that fits, as a signed fraction
 own-key : (f : Format) (s : Bool) (m : ℕ) (e : ℤ) → T (fits f (fin s m e)) → key f (fin s m e) ≡ signedKey f (plus s (m * up e)) (minus s (m * up e)) (down e)
@@ -101,14 +102,6 @@ module _ (f : Format) (sx : Bool) (mx : ℕ) (ex : ℤ) (su : Bool) (mu : ℕ) (
           absurd
           (let g = signed-key-rises f px nx (down ex) (pu * down ev + pv * down eu) (nu * down ev + nv * down eu) (down eu * down ev) (down-pos ex) (mul-pos (down-pos eu) (down-pos ev)) (other-side px nx (down ex) pu nu (down eu) pv nv (down ev) (leb-false b a e)) in
           omega (arith, sum-signedKey f su mu eu sv mv ev, own-key f sx mx ex tx))
-
-abbrev one : Float
-one = fin false 1 (pos 0)
-
-one-fits : (f : Format) → T (fits f one)
-unfolding fits
-one-fits binary32 = tt
-one-fits binary64 = tt
 
 -- ---- the same over all floats
 module _ (f : Format) where

@@ -3,6 +3,7 @@ pub mod FullScan
 pub mod Halves
 pub mod Opens
 pub mod Ordered
+pub mod Prepared
 pub mod Ranges
 pub mod Scanned
 pub mod Shut

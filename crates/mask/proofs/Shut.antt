@@ -19,16 +19,10 @@ use Rattle.floats.proofs.Mono.{le→signed}
 use Rattle.floats.proofs.Rising.{nought, neg-falls, not-above, not-itself}
 use Rattle.floats.proofs.Rules.{neg-finite, add-number, finite-number}
 use Rattle.floats.proofs.Gap.{gap-below, gap-above, div-one, one-less}
+use Rattle.floats.proofs.Units.{one as i, zero-fits}
 use Rattle.windows.specs.declared.Window.{Window}
 use Rattle.windows.specs.Opening.{nil, one, cubic, taperOf, insideOf, opennessOf}
 use Rattle.mask.specs.Gains.{touches}
-
-abbrev i : Float
-i = fin false 1 (pos 0)
-
-pub zero-fits : (s : Bool) → T (fits binary32 (fin s 0 (pos 0)))
-unfolding fits
-zero-fits s = tt
 
 -- ---- at or below 0 the taper is 0
 cubic-zero : (s : Bool) → cubic (fin s 0 (pos 0)) ≡ nought
@@ -55,7 +49,7 @@ taper-at nan p h = absurd h
 taper-at (inf true) p h = cubic-zero false
 taper-at (inf false) p h = absurd h
 taper-at (fin s zero e) p h =
-    ap (λ (y : Float). cubic (clamp (clamp y nought i) nought i)) (same-fin binary32 s 0 e 0 (pos 0) p (zero-fits s) (rw (zero-mul (up e), zero-mul (down e)))) ∙ flat s
+    ap (λ (y : Float). cubic (clamp (clamp y nought i) nought i)) (same-fin binary32 s 0 e 0 (pos 0) p (zero-fits binary32 s) (rw (zero-mul (up e), zero-mul (down e)))) ∙ flat s
   where
     flat : (s : Bool) → cubic (clamp (clamp (fin s 0 (pos 0)) nought i) nought i) ≡ nought
     flat true = cubic-zero true
@@ -108,7 +102,7 @@ zero-times (inf s) u k = absurd u
 zero-times (fin true n e) u k = absurd (not-above n e k)
 zero-times (fin false n e) u k =
     round-same binary32 false (n * up e * (0 * 2 ^ 0)) (down e * 1) (0 * 2 ^ 0) 1 (mul-pos (down-pos e) (zero-lt-suc 0)) (zero-lt-suc 0) (rw (mul-zero (n * up e), zero-mul (down e * 1)))
-    ∙ own-round binary32 false 0 (pos 0) (zero-fits false)
+    ∙ own-round binary32 false 0 (pos 0) (zero-fits binary32 false)
 
 module _ (w : Window) (log : Float) (fr : T (fits binary32 (w .«radius_octaves»))) (fl : T (fits binary32 log)) (uc : T (finite (w .«center_log2_hz»))) (ur : T (finite (w .«radius_octaves»))) (ul : T (finite log))
     (kr : T (lt nought (w .«radius_octaves»))) where

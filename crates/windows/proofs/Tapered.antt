@@ -25,19 +25,11 @@ use Rattle.floats.proofs.Numbers.{mul-number}
 use Rattle.floats.proofs.Rising.{nought, sub-falls, mul-rises}
 use Rattle.floats.proofs.Rules.{finite-number, le-trans}
 use Rattle.floats.proofs.Sat.{no}
+use Rattle.floats.proofs.Units.{one as i, zero-fits, one-fits, unit}
 use Rattle.floats.proofs.Values.{fine, same-fin}
 use Rattle.lists.specs.Pick.{by-case}
-use Rattle.windows.proofs.UpperHalf.{above-half}
+use Rattle.windows.proofs.UpperHalf.{two, three, above-half}
 use Rattle.windows.specs.Opening.{nil, one, cubic, taperOf}
-
-abbrev i : Float
-i = fin false 1 (pos 0)
-
-abbrev two : Float
-two = fin false 1 (pos 1)
-
-abbrev three : Float
-three = fin false 3 (pos 0)
 
 abbrev half : Float
 half = fin false 1 (negsuc 0)
@@ -73,21 +65,9 @@ three-quarters : T (le (mul binary32 quarter three) i)
 unfolding le lt eq mul Ieee.round Ieee.units Ieee.odd Ieee.size Ieee.span Ieee.climb
 three-quarters = tt
 
-i-fits : T (fits binary32 i)
-unfolding fits
-i-fits = tt
-
 two-fits : T (fits binary32 two)
 unfolding fits
 two-fits = tt
-
-z-fits : T (fits binary32 nought)
-unfolding fits
-z-fits = tt
-
-z-below-i : T (le nought i)
-unfolding le lt eq
-z-below-i = tt
 
 z-below-two : T (le nought two)
 unfolding le lt eq
@@ -134,7 +114,7 @@ module _ (y : Float) (p : T (fits binary32 y)) (m : Mag y 1) (least : T (le noug
   cubic-finite = (
     mag-finite (mul binary32 square rest) 5 (mul-mag binary32 square rest 1 5 (omega arith) square-mag rest-mag),
     product-from-zero binary32 square rest (mag-finite square 1 square-mag) (mag-finite rest 5 rest-mag) (product-from-zero binary32 y y y-finite y-finite least least)
-        (le-trans binary32 nought i rest z-fits i-fits (sub-fits binary32 three twice) z-below-i rest-least),
+        (le-trans binary32 nought i rest (zero-fits binary32 false) (one-fits binary32) (sub-fits binary32 three twice) unit rest-least),
   )
 
   -- up to a half
@@ -142,17 +122,17 @@ module _ (y : Float) (p : T (fits binary32 y)) (m : Mag y 1) (least : T (le noug
   lower-half k =
       let s-finite = mag-finite square 1 square-mag in
       let r-finite = mag-finite rest 5 rest-mag in
-      let r-least = le-trans binary32 nought i rest z-fits i-fits (sub-fits binary32 three twice) z-below-i rest-least in
+      let r-least = le-trans binary32 nought i rest (zero-fits binary32 false) (one-fits binary32) (sub-fits binary32 three twice) unit rest-least in
       let s-half : T (le square (mul binary32 half y)) = mul-rises binary32 y half y y-finite least k (mul-number binary32 y y y-finite y-finite) (mul-number binary32 half y tt y-finite) in
       let s-quarter : T (le square quarter) =
       le-trans binary32 square (mul binary32 half y) quarter (mul-fits binary32 y y) (mul-fits binary32 half y) quarter-fits s-half
       (subst (λ (x : Float). T (le (mul binary32 half y) x)) half-of-half (mul-rises-right binary32 y half y-finite tt half tt z-below-half k)) in
       let r-three : T (le rest three) =
       subst (λ (x : Float). T (le rest x)) three-less-nothing
-      (sub-falls binary32 three nought twice z-fits (mul-fits binary32 two y) (product-from-zero binary32 two y tt y-finite z-below-two least) (finite-number binary32 (sub binary32 three nought) (subst (λ (x : Float). T (finite x)) (sym three-less-nothing) tt)) (finite-number binary32 rest r-finite)) in
-      le-trans binary32 (mul binary32 square rest) (mul binary32 quarter rest) i (mul-fits binary32 square rest) (mul-fits binary32 quarter rest) i-fits
+      (sub-falls binary32 three nought twice (zero-fits binary32 false) (mul-fits binary32 two y) (product-from-zero binary32 two y tt y-finite z-below-two least) (finite-number binary32 (sub binary32 three nought) (subst (λ (x : Float). T (finite x)) (sym three-less-nothing) tt)) (finite-number binary32 rest r-finite)) in
+      le-trans binary32 (mul binary32 square rest) (mul binary32 quarter rest) i (mul-fits binary32 square rest) (mul-fits binary32 quarter rest) (one-fits binary32)
       (mul-rises binary32 square quarter rest r-finite r-least s-quarter (mul-number binary32 square rest s-finite r-finite) (mul-number binary32 quarter rest tt r-finite))
-      (le-trans binary32 (mul binary32 quarter rest) (mul binary32 quarter three) i (mul-fits binary32 quarter rest) (mul-fits binary32 quarter three) i-fits (mul-rises-right binary32 rest three r-finite tt quarter tt z-below-quarter r-three) three-quarters)
+      (le-trans binary32 (mul binary32 quarter rest) (mul binary32 quarter three) i (mul-fits binary32 quarter rest) (mul-fits binary32 quarter three) (one-fits binary32) (mul-rises-right binary32 rest three r-finite tt quarter tt z-below-quarter r-three) three-quarters)
 
 -- from there to 1
 abbrev polynomial : Float → Float
@@ -172,7 +152,7 @@ upper-half nan p h k = absurd (no k)
 upper-half (inf true) p h k = absurd (no k)
 upper-half (inf false) p h k = absurd (not-finite h)
 upper-half (fin true m e) p h k = absurd (no k)
-upper-half (fin false m (pos j)) p h k = subst (λ (x : Float). T (le (polynomial x) i)) (sym (same-fin binary32 false m (pos j) 1 (pos 0) p i-fits is)) at-one
+upper-half (fin false m (pos j)) p h k = subst (λ (x : Float). T (le (polynomial x) i)) (sym (same-fin binary32 false m (pos j) 1 (pos 0) p (one-fits binary32) is)) at-one
   where
     is : m * 2 ^ j * 1 ≡ 1 * 2 ^ 0 * 1
     is = omega (arith, le→signed false m (pos j) false 1 (pos 0) h, ltb-true (1 * 1 * 1) (m * 2 ^ j * 2 ^ 1) k)
@@ -192,14 +172,14 @@ polynomial-most y p m a b =
 pub taper-finite : (x : Float) → T (fits binary32 x) → T (not (isNan x)) → T (finite (taperOf x)) × T (le nought (taperOf x))
 unfolding taperOf cubic ofBits
 taper-finite x p u =
-    cubic-finite (clamp x nought i) (clamp-fits binary32 x nought i p z-fits i-fits) (clamp-mag x nought i 1 (is-false (isNan x) u) (omega arith) (omega arith))
-    (clamp-least binary32 x nought i p z-fits i-fits u z-below-i) (clamp-most binary32 x nought i p z-fits i-fits u z-below-i)
+    cubic-finite (clamp x nought i) (clamp-fits binary32 x nought i p (zero-fits binary32 false) (one-fits binary32)) (clamp-mag x nought i 1 (is-false (isNan x) u) (omega arith) (omega arith))
+    (clamp-least binary32 x nought i p (zero-fits binary32 false) (one-fits binary32) u unit) (clamp-most binary32 x nought i p (zero-fits binary32 false) (one-fits binary32) u unit)
 
 pub taper-most : (x : Float) → T (fits binary32 x) → T (not (isNan x)) → T (le (taperOf x) i)
 unfolding taperOf cubic ofBits
 taper-most x p u =
-    polynomial-most (clamp x nought i) (clamp-fits binary32 x nought i p z-fits i-fits) (clamp-mag x nought i 1 (is-false (isNan x) u) (omega arith) (omega arith))
-    (clamp-least binary32 x nought i p z-fits i-fits u z-below-i) (clamp-most binary32 x nought i p z-fits i-fits u z-below-i)
+    polynomial-most (clamp x nought i) (clamp-fits binary32 x nought i p (zero-fits binary32 false) (one-fits binary32)) (clamp-mag x nought i 1 (is-false (isNan x) u) (omega arith) (omega arith))
+    (clamp-least binary32 x nought i p (zero-fits binary32 false) (one-fits binary32) u unit) (clamp-most binary32 x nought i p (zero-fits binary32 false) (one-fits binary32) u unit)
 
 pub taper-number : (x : Float) → T (fits binary32 x) → T (not (isNan x)) → T (not (isNan (taperOf x)))
 taper-number x p u = finite-number binary32 (taperOf x) (taper-finite x p u .0)

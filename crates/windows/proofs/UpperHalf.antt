@@ -19,6 +19,7 @@ use Rattle.floats.proofs.Keys.{mag-back}
 use Rattle.floats.proofs.Mag.{Upto, upto-mag, within-upto, mag-le}
 use Rattle.floats.proofs.Nearest.{round-nearest}
 use Rattle.floats.proofs.Pack.{pow-lt-back}
+use Rattle.floats.proofs.Units.{one as i}
 
 -- ---- numbers
 -- c and g are what y lies above a half and below 1; H is the half, in their units
@@ -75,13 +76,10 @@ fractions x v y w U L R H P Q p q h =
     crossed x y L H = simp (mul-assoc, mul-comm, mul-left-comm)
 
 -- ---- floats
-abbrev i : Float
-i = fin false 1 (pos 0)
-
-abbrev two : Float
+abbrev pub two : Float
 two = fin false 1 (pos 1)
 
-abbrev three : Float
+abbrev pub three : Float
 three = fin false 3 (pos 0)
 
 true-is-not : true ≡ false → ⊥
