@@ -5,10 +5,9 @@ use mathlib.Core.Bool.{Bool, true, false, not, cond, _&&_}
 use mathlib.Core.List.{List, [], _∷_}
 use borrow.Author.Tests.{lt-ltb}
 use denote.Floats.{passes}
-use lib.IntN.{pos}
 use lib.Dec.{T, ltb}
 use lib.ListN.{length, getD}
-use lib.Ieee.{Float, nan, fin, binary32, ofBits, neg, add, sub, mul, div, lt, le, eq, fits, isNan}
+use lib.Ieee.{Float, nan, binary32, ofBits, neg, sub, mul, div, lt, le, eq, fits, isNan}
 use lib.Ieee.Bits.{is-false}
 use lib.Ieee.Fits.{sub-fits, mul-fits, cond-fits}
 use lib.Ieee.Scale.{finite}

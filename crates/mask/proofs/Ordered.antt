@@ -2,7 +2,7 @@
 use Prim.Native.Nat.{ℕ, zero, suc, _+_, _-_, _≤_, _<_}
 use native.Mathlib.Nat.{add-zero}
 use native.Mathlib.Omega.{arith}
-use mathlib.Core.Path.{_≡_, refl, sym, ap, _∙_, subst}
+use mathlib.Core.Path.{_≡_, sym, subst}
 use mathlib.Core.Bool.{Bool, true, false, not, _&&_, _||_}
 use mathlib.Core.List.{List}
 use borrow.Author.Tests.{le-ltb}
@@ -12,7 +12,7 @@ use lib.Ieee.{Float, nan, binary32, lt, le, fits, isNan}
 use lib.Ieee.Bits.{is-true, is-false}
 use lib.Ieee.Fits.{and-l, and-r}
 use lib.Ieee.Scale.{finite}
-use Rattle.lists.specs.All.{all, all-at}
+use Rattle.lists.specs.All.{all-at}
 use Rattle.floats.proofs.Rising.{le-refl}
 use Rattle.floats.proofs.Rules.{le-trans, not-lt→le, finite-number}
 use Rattle.floats.proofs.Through.{le-lt}

@@ -1,16 +1,15 @@
 -- A table that `bin_table` fills passes refusal 6: its logs are finite, and none is less than the one before it.
 use Prim.Native.Nat.{ℕ, zero, suc, _+_, _-_, _*_, _^_, _≤_, _<_}
-use native.Mathlib.Nat.{le-trans, le-of-eq, mul-assoc, mul-comm, mul-right-comm, mul-one, one-mul, zero-mul, mul-pos, mul-le-mul-right, zero-lt-suc}
+use native.Mathlib.Nat.{mul-assoc, mul-right-comm, mul-one, one-mul, zero-mul, mul-pos, mul-le-mul-right, zero-lt-suc}
 use native.Mathlib.Omega.{arith}
 use mathlib.Core.Path.{_≡_, refl, sym, ap, _∙_, subst}
-use mathlib.Core.Bool.{Bool, true, false, not, cond, _&&_, _||_}
-use mathlib.Core.List.{List}
+use mathlib.Core.Bool.{Bool, true, false, not, cond, _&&_}
 use borrow.Author.Tests.{lt-ltb, ltb-true, ltb-false, ne-eqb}
 use denote.Floats.{passes}
 use lib.IntN.{pos, negsuc}
 use lib.Dec.{T, ltb, eqb, eqb·suc-zero}
 use lib.ListN.{length, getD}
-use lib.Ieee.{Float, nan, inf, fin, binary32, ofBits, ofInt, up, down, round, mul, div, lt, le, eq, fits}
+use lib.Ieee.{Float, nan, inf, fin, binary32, ofBits, ofInt, up, down, round, div, lt, le, eq, fits}
 use lib.Ieee as Ieee
 use lib.Ieee.Back.{round-whole}
 use lib.Ieee.Bits.{is-true}
@@ -24,7 +23,7 @@ use Rattle.lists.specs.Table.{table, length-table, table-at}
 use Rattle.elementary.specs.Log2.{log2Of}
 use Rattle.elementary.proofs.LogExact.{log2-fits}
 use Rattle.elementary.proofs.LogRises.{log2-within, log2-rises}
-use Rattle.floats.specs.Names.{f32, mul32, div32}
+use Rattle.floats.specs.Names.{mul32, div32}
 use Rattle.floats.proofs.Bounds.{div-mag, of-upto}
 use Rattle.floats.proofs.Casting.{whole-rises}
 use Rattle.floats.proofs.Ends.{not-above}

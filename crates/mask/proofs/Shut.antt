@@ -7,7 +7,7 @@ use mathlib.Core.Bool.{Bool, true, false, not, cond, _&&_}
 use borrow.Author.Tests.{lt-ltb}
 use lib.IntN.{ℤ, pos}
 use lib.Dec.{T}
-use lib.Ieee.{Float, nan, inf, fin, binary32, ofBits, up, down, round, add, sub, mul, div, neg, lt, le, eq, fits, isNan}
+use lib.Ieee.{Float, nan, inf, fin, binary32, ofBits, up, down, round, add, sub, mul, div, neg, lt, le, eq, fits}
 use lib.Ieee as Ieee
 use lib.Ieee.Fits.{up-pos, down-pos, add-fits, sub-fits, div-fits, neg-fits}
 use lib.Ieee.Scale.{finite, round-same}

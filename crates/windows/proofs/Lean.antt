@@ -4,7 +4,7 @@ use native.Mathlib.Nat.{zero-mul, mul-one, mul-pos, zero-lt-suc}
 use native.Mathlib.Omega.{arith}
 use mathlib.Core.Path.{_≡_, refl, sym, ap, _∙_, subst}
 use mathlib.Core.Bool.{Bool, true, false, not, cond, _&&_, _||_}
-use lib.IntN.{ℤ, pos}
+use lib.IntN.{ℤ}
 use lib.Dec.{T, eqb, ltb, lt→ltb}
 use lib.Ieee.{Float, nan, inf, fin, Format, prec, emax, low, binary32, ofBits, up, down, round, add, sub, div, neg, lt, le, eq, fits}
 use lib.Ieee as Ieee

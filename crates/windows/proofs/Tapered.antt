@@ -1,9 +1,9 @@
 -- The taper of a number, an infinity too, is finite and lies from 0 to 1; only a NaN's is a NaN.
-use Prim.Native.Nat.{ℕ, suc, _+_, _-_, _*_, _^_, _≤_, _<_}
+use Prim.Native.Nat.{suc, _+_, _-_, _*_, _^_, _≤_, _<_}
 use native.Mathlib.Nat.{pow-suc}
 use native.Mathlib.Omega.{arith}
 use mathlib.Core.Path.{_≡_, refl, sym, subst}
-use mathlib.Core.Bool.{Bool, true, false, not, cond}
+use mathlib.Core.Bool.{true, false, not}
 use borrow.Author.Tests.{ltb-true}
 use denote.Floats.{passes}
 use lib.IntN.{pos, negsuc}
@@ -29,7 +29,7 @@ use Rattle.floats.proofs.Units.{one as i, zero-fits, one-fits, unit}
 use Rattle.floats.proofs.Values.{fine, same-fin}
 use Rattle.lists.specs.Pick.{by-case}
 use Rattle.windows.proofs.UpperHalf.{two, three, above-half}
-use Rattle.windows.specs.Opening.{nil, one, cubic, taperOf}
+use Rattle.windows.specs.Opening.{cubic, taperOf}
 
 abbrev half : Float
 half = fin false 1 (negsuc 0)

@@ -1,6 +1,6 @@
 -- `walk` meets its contract: the windows in order.
 use borrow.Author.Needs.{needs}
-use Prim.Native.Nat.{ℕ, _-_}
+use Prim.Native.Nat.{_-_}
 use mathlib.Core.Path.{sym, ap, _∙_}
 use lib.ListN.{length}
 use Rattle.lists.specs.Table.{length-table}
