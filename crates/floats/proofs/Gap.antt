@@ -1,18 +1,18 @@
 -- What lies outside a rounded sum lies outside by the rounded difference too, over the format: x < fl(u + v) gives fl(x - u) <= v, and fl(u + v) < x gives v <= fl(x - u).
-use Prim.Native.Nat.{ℕ, zero, suc, _+_, _-_, _*_, _/_, _^_, _≤_, _<_}
-use native.Mathlib.Nat.{mul-comm, mul-assoc, mul-left-comm, mul-pos, add-mul, zero-mul, zero-lt-suc}
+use Prim.Native.Nat.{ℕ, zero, suc, _+_, _-_, _*_, _^_, _≤_, _<_}
+use native.Mathlib.Nat.{mul-comm, mul-assoc, mul-left-comm, mul-pos, add-mul, zero-lt-suc}
 use native.Mathlib.Omega.{arith}
 use mathlib.Core.Path.{_≡_, refl, sym, ap, _∙_, subst}
 use mathlib.Core.Bool.{Bool, true, false, not, cond}
-use lib.IntN.{ℤ, pos, negsuc}
-use lib.Dec.{T, ltb, leb, eqb, leb→le, ltb→lt, eqb·suc-zero}
-use borrow.Author.Tests.{leb-true, leb-false, ltb-true, le-ltb}
-use lib.Ieee.{Float, nan, inf, fin, Format, binary32, binary64, up, down, round, units, odd, size, span, climb, sum, add, neg, sub, div, unlike, lt, le, eq, fits, isNan}
-use lib.Ieee.Fits.{up-pos, down-pos, add-fits, neg-fits, div-fits}
+use lib.IntN.{ℤ, pos}
+use lib.Dec.{T, leb, eqb, eqb·suc-zero}
+use borrow.Author.Tests.{leb-true, leb-false, ltb-true}
+use lib.Ieee.{Float, nan, inf, fin, Format, up, down, round, size, sum, add, neg, sub, div, unlike, lt, le, fits, isNan}
+use lib.Ieee.Fits.{up-pos, down-pos, add-fits}
 use lib.Ieee.Scale.{finite, round-same}
 use Rattle.floats.proofs.Values.{own-round}
 use Rattle.floats.proofs.Keys.{over, key, lt-key}
-use Rattle.floats.proofs.Mono.{signedKey, signed-key-rises, round-signed-key, add-key, div-up, plus, minus, plus-mul, minus-mul}
+use Rattle.floats.proofs.Mono.{signedKey, signed-key-rises, round-signed-key, add-key, plus, minus, plus-mul, minus-mul}
 use Rattle.floats.proofs.Rules.{key→le, add-number, neg-finite, finite-number, le-right}
 use Rattle.floats.proofs.Rising.{nought, not-above, not-itself, div-rises, sub-falls}
 use Rattle.floats.proofs.Floor.{round-number}

@@ -1,7 +1,7 @@
 -- Tables: what the last arm of a `match` knows.
 use mathlib.Core.Path.{_≡_, sym}
 use mathlib.Core.Logic.{inl, inr}
-use Prim.Native.Nat.{ℕ, zero, suc, zero-le, _≤_, _<_}
+use Prim.Native.Nat.{ℕ, zero, suc, zero-le, _≤_}
 use native.Mathlib.Nat.{eq-or-lt-of-le}
 
 -- i is none of the numbers below n, as the last arm of a `match` on 0 to n - 1 has it: so it is n or more
