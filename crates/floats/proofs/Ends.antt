@@ -1,15 +1,15 @@
--- What lies between two numbers is no larger than they are; what both have, the smaller has; what is at most another is not above it.
+-- What lies between two numbers is no larger than they are; what both have, the smaller has; what is at most another is not above it, and what is not at most another is above it.
 use Prim.Native.Nat.{ℕ}
 use native.Mathlib.Omega.{arith}
-use mathlib.Core.Path.{_≡_, _∙_, subst}
-use mathlib.Core.Bool.{true, false}
-use borrow.Author.Tests.{le-ltb}
+use mathlib.Core.Path.{_≡_, sym, _∙_, subst}
+use mathlib.Core.Bool.{true, false, not}
+use borrow.Author.Tests.{le-ltb, lt-ltb, leb-false}
 use lib.IntN.{ℤ}
 use lib.Dec.{T}
 use lib.Ieee.{Float, nan, inf, fin, Format, neg, lt, le, fits, isNan}
 use Rattle.lists.specs.Pick.{by-case}
 use Rattle.floats.specs.Choose.{min}
-use Rattle.floats.proofs.Keys.{key, lt-key}
+use Rattle.floats.proofs.Keys.{key, lt-key, le-key}
 use Rattle.floats.proofs.Mag.{Mag, Upto, le-upto}
 use Rattle.floats.proofs.Rising.{nought, neg-falls, past-lowest, past-highest}
 use Rattle.floats.proofs.Rules.{le→key, key→le, le-left, le-right}
@@ -22,6 +22,9 @@ module _ (P : Float → Type 0) (x y : Float) (p : P x) (q : P y) where
 module _ (f : Format) where
   pub not-above : (x y : Float) → T (fits f x) → T (fits f y) → T (le x y) → lt y x ≡ false
   not-above x y p q h = lt-key f y x q p (le-right x y h) (le-left x y h) ∙ le-ltb (key f y) (key f x) (le→key f x y p q h)
+
+  pub not-le→lt : (x y : Float) → T (fits f x) → T (fits f y) → T (not (isNan x)) → T (not (isNan y)) → le x y ≡ false → lt y x ≡ true
+  not-le→lt x y p q u v h = lt-key f y x q p v u ∙ lt-ltb (key f y) (key f x) (leb-false (key f x) (key f y) (sym (le-key f x y p q u v) ∙ h))
 
   pub from-zero : (m : ℕ) (e : ℤ) → T (fits f (fin false m e)) → T (le nought (fin false m e))
   unfolding isNan fits

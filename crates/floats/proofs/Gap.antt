@@ -1,21 +1,22 @@
 -- What lies outside a rounded sum lies outside by the rounded difference too, over the format: x < fl(u + v) gives fl(x - u) <= v, and fl(u + v) < x gives v <= fl(x - u).
-use Prim.Native.Nat.{ℕ, zero, suc, _+_, _-_, _*_, _/_, _^_, _≤_, _<_}
-use native.Mathlib.Nat.{mul-comm, mul-assoc, mul-left-comm, mul-pos, add-mul, zero-mul, zero-lt-suc}
+use Prim.Native.Nat.{ℕ, zero, suc, _+_, _-_, _*_, _^_, _≤_, _<_}
+use native.Mathlib.Nat.{mul-comm, mul-assoc, mul-left-comm, mul-pos, add-mul, zero-lt-suc}
 use native.Mathlib.Omega.{arith}
 use mathlib.Core.Path.{_≡_, refl, sym, ap, _∙_, subst}
 use mathlib.Core.Bool.{Bool, true, false, not, cond}
-use lib.IntN.{ℤ, pos, negsuc}
-use lib.Dec.{T, ltb, leb, eqb, leb→le, ltb→lt, eqb·suc-zero}
-use borrow.Author.Tests.{leb-true, leb-false, ltb-true, le-ltb}
-use lib.Ieee.{Float, nan, inf, fin, Format, binary32, binary64, up, down, round, units, odd, size, span, climb, sum, add, neg, sub, div, unlike, lt, le, eq, fits, isNan}
-use lib.Ieee.Fits.{up-pos, down-pos, add-fits, neg-fits, div-fits}
+use lib.IntN.{ℤ, pos}
+use lib.Dec.{T, leb, eqb, eqb·suc-zero}
+use borrow.Author.Tests.{leb-true, leb-false, ltb-true}
+use lib.Ieee.{Float, nan, inf, fin, Format, up, down, round, size, sum, add, neg, sub, div, unlike, lt, le, fits, isNan}
+use lib.Ieee.Fits.{up-pos, down-pos, add-fits}
 use lib.Ieee.Scale.{finite, round-same}
 use Rattle.floats.proofs.Values.{own-round}
 use Rattle.floats.proofs.Keys.{over, key, lt-key}
-use Rattle.floats.proofs.Mono.{signedKey, signed-key-rises, round-signed-key, add-key, div-up, plus, minus, plus-mul, minus-mul}
+use Rattle.floats.proofs.Mono.{signedKey, signed-key-rises, round-signed-key, add-key, plus, minus, plus-mul, minus-mul}
 use Rattle.floats.proofs.Rules.{key→le, add-number, neg-finite, finite-number, le-right}
 use Rattle.floats.proofs.Rising.{nought, not-above, not-itself, div-rises, sub-falls}
 use Rattle.floats.proofs.Floor.{round-number}
+use Rattle.floats.proofs.Units.{one, one-fits}
 
 -- a value that fits, as a signed fraction
 own-key : (f : Format) (s : Bool) (m : ℕ) (e : ℤ) → T (fits f (fin s m e)) → key f (fin s m e) ≡ signedKey f (plus s (m * up e)) (minus s (m * up e)) (down e)
@@ -101,14 +102,6 @@ module _ (f : Format) (sx : Bool) (mx : ℕ) (ex : ℤ) (su : Bool) (mu : ℕ) (
           absurd
           (let g = signed-key-rises f px nx (down ex) (pu * down ev + pv * down eu) (nu * down ev + nv * down eu) (down eu * down ev) (down-pos ex) (mul-pos (down-pos eu) (down-pos ev)) (other-side px nx (down ex) pu nu (down eu) pv nv (down ev) (leb-false b a e)) in
           omega (arith, sum-signedKey f su mu eu sv mv ev, own-key f sx mx ex tx))
-
-abbrev one : Float
-one = fin false 1 (pos 0)
-
-one-fits : (f : Format) → T (fits f one)
-unfolding fits
-one-fits binary32 = tt
-one-fits binary64 = tt
 
 -- ---- the same over all floats
 module _ (f : Format) where

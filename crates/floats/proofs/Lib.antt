@@ -39,3 +39,4 @@ pub mod Products
 pub mod Ends
 pub mod Wholes
 pub mod Gap
+pub mod Units

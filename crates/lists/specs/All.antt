@@ -3,9 +3,10 @@ use mathlib.Core.Path.{subst⁻¹}
 use mathlib.Core.Bool.{Bool, true, _&&_}
 use mathlib.Core.Logic.{inl, inr}
 use Prim.Native.Nat.{ℕ, zero, suc, _<_}
-use native.Mathlib.Nat.{not-suc-le-zero, le-of-suc-le-suc, eq-or-lt-of-le}
+use native.Mathlib.Nat.{le-refl, not-suc-le-zero, le-of-suc-le-suc, eq-or-lt-of-le}
+use native.Mathlib.Omega.{arith}
 use lib.Dec.{T}
-use lib.Ieee.Fits.{and-l, and-r}
+use lib.Ieee.Fits.{and-l, and-r, and-i}
 
 abbrev pub all : (ℕ → Bool) → ℕ → Bool
 all f zero = true
@@ -17,3 +18,7 @@ all-at f (suc n) t k h = elim (eq-or-lt-of-le (le-of-suc-le-suc h)) [
   | inl e ↦ subst⁻¹ (λ (m : ℕ). T (f m)) e (and-r (all f n) (f n) t)
   | inr l ↦ all-at f n (and-l (all f n) (f n) t) k l
 ]
+
+pub all-of : (f : ℕ → Bool) (n : ℕ) → ((k : ℕ) → k < n → T (f k)) → T (all f n)
+all-of f zero h = tt
+all-of f (suc n) h = and-i (all f n) (f n) (all-of f n (λ k l. h k (omega arith))) (h n (le-refl (suc n)))

@@ -10,15 +10,9 @@ use lib.Ieee.{Float, nan, inf, fin, binary32, ofBits, up, down, round, add, sub,
 use lib.Ieee as Ieee
 use lib.Ieee.Fits.{up-pos, and-l}
 use Rattle.floats.proofs.Rising.{nought}
+use Rattle.floats.proofs.Units.{one as i, zero-fits}
 use Rattle.floats.proofs.Values.{same-fin}
 use Rattle.windows.specs.Opening.{nil, one}
-
-abbrev i : Float
-i = fin false 1 (pos 0)
-
-zero-fits : (s : Bool) → T (fits binary32 (fin s 0 (pos 0)))
-unfolding fits
-zero-fits s = tt
 
 at-zero : (s : Bool) → sub binary32 i (fin s 0 (pos 0)) ≡ i
 unfolding sub add neg Ieee.sum round Ieee.units Ieee.odd Ieee.size Ieee.span Ieee.climb
@@ -34,7 +28,7 @@ flat : (o : Float) → T (fits binary32 o) → eq o nought ≡ true → sub bina
 unfolding eq
 flat nan p h = absurd (subst T (sym h) tt)
 flat (inf s) p h = absurd (subst T (sym h) tt)
-flat (fin s zero e) p h = ap (sub binary32 i) (same-fin binary32 s 0 e 0 (pos 0) p (zero-fits s) (rw (zero-mul (up e), zero-mul (down e)))) ∙ at-zero s
+flat (fin s zero e) p h = ap (sub binary32 i) (same-fin binary32 s 0 e 0 (pos 0) p (zero-fits binary32 s) (rw (zero-mul (up e), zero-mul (down e)))) ∙ at-zero s
 flat (fin s (suc m) e) p h =
     absurd (let w : 0 < suc m * up e = mul-pos (zero-lt-suc m) (up-pos e) in omega (arith, some s m e (subst T (sym h) tt), mul-one (suc m * up e), zero-mul (down e)))
 

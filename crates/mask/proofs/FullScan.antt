@@ -5,10 +5,9 @@ use mathlib.Core.Bool.{Bool, true, false, not, cond, _&&_}
 use mathlib.Core.List.{List, [], _∷_}
 use borrow.Author.Tests.{lt-ltb}
 use denote.Floats.{passes}
-use lib.IntN.{pos}
 use lib.Dec.{T, ltb}
 use lib.ListN.{length, getD}
-use lib.Ieee.{Float, nan, fin, binary32, ofBits, neg, add, sub, mul, div, lt, le, eq, fits, isNan}
+use lib.Ieee.{Float, nan, binary32, ofBits, neg, sub, mul, div, lt, le, eq, fits, isNan}
 use lib.Ieee.Bits.{is-false}
 use lib.Ieee.Fits.{sub-fits, mul-fits, cond-fits}
 use lib.Ieee.Scale.{finite}
@@ -16,18 +15,19 @@ use Rattle.lists.specs.Pick.{by-case}
 use Rattle.lists.specs.Walk.{walk}
 use Rattle.floats.specs.Choose.{max, clamp, abs}
 use Rattle.floats.proofs.Choosing.{max-fits, clamp-fits, clamp-most}
-use Rattle.floats.proofs.Ends.{not-above}
+use Rattle.floats.proofs.Ends.{not-above, not-le→lt}
 use Rattle.floats.proofs.Gap.{quotient-number, one-number}
 use Rattle.floats.proofs.Products.{product-to-zero}
 use Rattle.floats.proofs.Rising.{nought}
 use Rattle.floats.proofs.Rules.{lt→le, le-left, le-right, le-trans, add-number, neg-finite, finite-number}
 use Rattle.floats.proofs.Sign.{abs-number}
+use Rattle.floats.proofs.Units.{one as i, zero-fits, one-fits, unit}
 use Rattle.windows.specs.declared.Window.{Window}
 use Rattle.windows.specs.Opening.{nil, one, taperOf, insideOf, opennessOf, opening, openedBy}
 use Rattle.windows.proofs.Tapered.{taper-finite}
 use Rattle.mask.specs.Gains.{lawfulLogs, touches, raisedOf, raising, openAt}
 use Rattle.mask.proofs.Ordered.{all-finite}
-use Rattle.mask.proofs.Shut.{zero-fits, not-le→lt, shut}
+use Rattle.mask.proofs.Shut.{shut}
 
 -- a window of floats that f32 holds, all finite
 pub record Finite (w : Window) : Type 0 where
@@ -41,17 +41,6 @@ abbrev pub AllFinite : List Window → Type 0
 AllFinite [] = Unit {0}
 AllFinite (w ∷ ws) = Finite w × AllFinite ws
 
-abbrev i : Float
-i = fin false 1 (pos 0)
-
-i-fits : T (fits binary32 i)
-unfolding fits
-i-fits = tt
-
-z-below-i : T (le nought i)
-unfolding le lt eq
-z-below-i = tt
-
 z-below-z : T (le nought nought)
 unfolding le lt eq
 z-below-z = tt
@@ -62,11 +51,11 @@ module _ (o v : Float) (p : T (fits binary32 o)) (q : T (fits binary32 v)) (h : 
   unfolding max
   keeps =
       rw (is-false (isNan o) (le-right nought o h))
-      (by-case (lt o v) (λ e. rw e (le-trans binary32 nought o v (zero-fits false) p q h (lt→le o v e))) (λ e. rw e h))
+      (by-case (lt o v) (λ e. rw e (le-trans binary32 nought o v (zero-fits binary32 false) p q h (lt→le o v e))) (λ e. rw e h))
 
   stays : T (le v nought) → max o v ≡ o
   unfolding max
-  stays g = rw (is-false (isNan o) (le-right nought o h), not-above binary32 v o q p (le-trans binary32 v nought o q (zero-fits false) p g h)) refl
+  stays g = rw (is-false (isNan o) (le-right nought o h), not-above binary32 v o q p (le-trans binary32 v nought o q (zero-fits binary32 false) p g h)) refl
 
 either-way : (b : Bool) (x o : Float) → x ≡ o → cond b x o ≡ x
 either-way true x o e = refl
@@ -75,7 +64,7 @@ either-way false x o e = sym e
 openness-fits : (w : Window) (log : Float) → T (fits binary32 (opennessOf w log))
 unfolding opennessOf ofBits
 openness-fits w log =
-    cond-fits binary32 (le (w .«radius_octaves») nought) nought (mul binary32 (w .amplitude) (taperOf (clamp (insideOf w log) nil one))) (zero-fits false)
+    cond-fits binary32 (le (w .«radius_octaves») nought) nought (mul binary32 (w .amplitude) (taperOf (clamp (insideOf w log) nil one))) (zero-fits binary32 false)
     (mul-fits binary32 (w .amplitude) (taperOf (clamp (insideOf w log) nil one)))
 
 -- ---- one window at one bin
@@ -98,7 +87,7 @@ module _ (w : Window) (log : Float) (F : Finite w) (fl : T (fits binary32 log)) 
 
   above : (x : Float) → T (fits binary32 x) → T (finite x) → le x nil ≡ false → T (lt nought x)
   unfolding ofBits
-  above x p u e = passes _ (not-le→lt x nought p (zero-fits false) (finite-number binary32 x u) (finite-number binary32 nought tt) e)
+  above x p u e = passes _ (not-le→lt binary32 x nought p (zero-fits binary32 false) (finite-number binary32 x u) (finite-number binary32 nought tt) e)
 
   inside-number : T (lt nought r) → T (not (isNan (insideOf w log)))
   unfolding insideOf ofBits sub
@@ -114,8 +103,8 @@ module _ (w : Window) (log : Float) (F : Finite w) (fl : T (fits binary32 log)) 
   unfolding ofBits
   tapered k =
       let x = insideOf w log in
-      taper-finite (clamp x nought i) (clamp-fits binary32 x nought i inside-fits (zero-fits false) i-fits)
-      (le-left (clamp x nought i) i (clamp-most binary32 x nought i inside-fits (zero-fits false) i-fits (inside-number k) z-below-i))
+      taper-finite (clamp x nought i) (clamp-fits binary32 x nought i inside-fits (zero-fits binary32 false) (one-fits binary32))
+      (le-left (clamp x nought i) i (clamp-most binary32 x nought i inside-fits (zero-fits binary32 false) (one-fits binary32) (inside-number k) unit))
 
   no-amplitude : le r nil ≡ false → T (le a nought) → T (le v nought)
   unfolding opennessOf
@@ -161,4 +150,4 @@ scan log bin fl ul l (w ∷ ws) F j o p h =
 pub full-scan : (ws : List Window) → AllFinite ws → (logs : List Float) → ((k : ℕ) → T (fits binary32 (getD logs k nan))) → lawfulLogs logs ≡ true
     → (bin : ℕ) → 1 ≤ bin → bin < length logs → openAt ws logs bin ≡ openedBy ws (getD logs bin nan)
 unfolding openAt openedBy ofBits
-full-scan ws F logs fit ok bin l h = scan (getD logs bin nan) bin (fit bin) (all-finite logs fit ok bin l h) l ws F 0 nought (zero-fits false) z-below-z
+full-scan ws F logs fit ok bin l h = scan (getD logs bin nan) bin (fit bin) (all-finite logs fit ok bin l h) l ws F 0 nought (zero-fits binary32 false) z-below-z

@@ -2,26 +2,22 @@
 use Prim.Native.Nat.{ℕ, zero, suc, _+_, _-_, _≤_, _<_}
 use native.Mathlib.Nat.{add-zero}
 use native.Mathlib.Omega.{arith}
-use mathlib.Core.Path.{_≡_, refl, sym, ap, _∙_, subst}
+use mathlib.Core.Path.{_≡_, sym, subst}
 use mathlib.Core.Bool.{Bool, true, false, not, _&&_, _||_}
 use mathlib.Core.List.{List}
 use borrow.Author.Tests.{le-ltb}
 use lib.Dec.{T, ltb}
 use lib.ListN.{length, getD}
 use lib.Ieee.{Float, nan, binary32, lt, le, fits, isNan}
-use lib.Ieee.Bits.{is-false}
+use lib.Ieee.Bits.{is-true, is-false}
 use lib.Ieee.Fits.{and-l, and-r}
 use lib.Ieee.Scale.{finite}
-use Rattle.lists.specs.All.{all, all-at}
+use Rattle.lists.specs.All.{all-at}
 use Rattle.floats.proofs.Rising.{le-refl}
 use Rattle.floats.proofs.Rules.{le-trans, not-lt→le, finite-number}
 use Rattle.floats.proofs.Through.{le-lt}
 use Rattle.mask.specs.Gains.{lawfulAt, lawfulLogs}
 use Rattle.mask.specs.Walk.{Sorted}
-
-is-true : (b : Bool) → T b → b ≡ true
-is-true true t = refl
-is-true false t = absurd t
 
 or-past : (a b : Bool) → a ≡ false → T (a || b) → T b
 or-past true b e t = absurd (subst T e tt)

@@ -4,39 +4,25 @@ use native.Mathlib.Nat.{mul-pos, mul-one, zero-mul, mul-zero, zero-lt-suc}
 use native.Mathlib.Omega.{arith}
 use mathlib.Core.Path.{_≡_, refl, sym, ap, _∙_, subst}
 use mathlib.Core.Bool.{Bool, true, false, not, cond, _&&_}
-use borrow.Author.Tests.{lt-ltb, lt-leb, ltb-true, leb-false}
+use borrow.Author.Tests.{lt-ltb}
 use lib.IntN.{ℤ, pos}
 use lib.Dec.{T}
-use lib.Ieee.{Float, nan, inf, fin, binary32, ofBits, up, down, round, add, sub, mul, div, neg, lt, le, eq, fits, isNan}
+use lib.Ieee.{Float, nan, inf, fin, binary32, ofBits, up, down, round, add, sub, mul, div, neg, lt, le, eq, fits}
 use lib.Ieee as Ieee
 use lib.Ieee.Fits.{up-pos, down-pos, add-fits, sub-fits, div-fits, neg-fits}
 use lib.Ieee.Scale.{finite, round-same}
 use Rattle.lists.specs.Pick.{by-case}
 use Rattle.floats.specs.Choose.{clamp, abs}
 use Rattle.floats.proofs.Values.{own-round, same-fin}
-use Rattle.floats.proofs.Keys.{key, lt-key, le-key}
+use Rattle.floats.proofs.Ends.{not-le→lt}
 use Rattle.floats.proofs.Mono.{le→signed}
 use Rattle.floats.proofs.Rising.{nought, neg-falls, not-above, not-itself}
 use Rattle.floats.proofs.Rules.{neg-finite, add-number, finite-number}
 use Rattle.floats.proofs.Gap.{gap-below, gap-above, div-one, one-less}
+use Rattle.floats.proofs.Units.{one as i, zero-fits}
 use Rattle.windows.specs.declared.Window.{Window}
 use Rattle.windows.specs.Opening.{nil, one, cubic, taperOf, insideOf, opennessOf}
 use Rattle.mask.specs.Gains.{touches}
-
-abbrev i : Float
-i = fin false 1 (pos 0)
-
--- ---- tests
-module _ (x y : Float) (p : T (fits binary32 x)) (q : T (fits binary32 y)) (u : T (not (isNan x))) (v : T (not (isNan y))) where
-  pub not-le→lt : le x y ≡ false → lt y x ≡ true
-  not-le→lt h = lt-key binary32 y x q p v u ∙ lt-ltb (key binary32 y) (key binary32 x) (leb-false (key binary32 x) (key binary32 y) (sym (le-key binary32 x y p q u v) ∙ h))
-
-  pub lt→not-le : lt x y ≡ true → le y x ≡ false
-  lt→not-le h = le-key binary32 y x q p v u ∙ lt-leb (key binary32 y) (key binary32 x) (ltb-true (key binary32 x) (key binary32 y) (sym (lt-key binary32 x y p q u v) ∙ h))
-
-pub zero-fits : (s : Bool) → T (fits binary32 (fin s 0 (pos 0)))
-unfolding fits
-zero-fits s = tt
 
 -- ---- at or below 0 the taper is 0
 cubic-zero : (s : Bool) → cubic (fin s 0 (pos 0)) ≡ nought
@@ -63,7 +49,7 @@ taper-at nan p h = absurd h
 taper-at (inf true) p h = cubic-zero false
 taper-at (inf false) p h = absurd h
 taper-at (fin s zero e) p h =
-    ap (λ (y : Float). cubic (clamp (clamp y nought i) nought i)) (same-fin binary32 s 0 e 0 (pos 0) p (zero-fits s) (rw (zero-mul (up e), zero-mul (down e)))) ∙ flat s
+    ap (λ (y : Float). cubic (clamp (clamp y nought i) nought i)) (same-fin binary32 s 0 e 0 (pos 0) p (zero-fits binary32 s) (rw (zero-mul (up e), zero-mul (down e)))) ∙ flat s
   where
     flat : (s : Bool) → cubic (clamp (clamp (fin s 0 (pos 0)) nought i) nought i) ≡ nought
     flat true = cubic-zero true
@@ -116,7 +102,7 @@ zero-times (inf s) u k = absurd u
 zero-times (fin true n e) u k = absurd (not-above n e k)
 zero-times (fin false n e) u k =
     round-same binary32 false (n * up e * (0 * 2 ^ 0)) (down e * 1) (0 * 2 ^ 0) 1 (mul-pos (down-pos e) (zero-lt-suc 0)) (zero-lt-suc 0) (rw (mul-zero (n * up e), zero-mul (down e * 1)))
-    ∙ own-round binary32 false 0 (pos 0) (zero-fits false)
+    ∙ own-round binary32 false 0 (pos 0) (zero-fits binary32 false)
 
 module _ (w : Window) (log : Float) (fr : T (fits binary32 (w .«radius_octaves»))) (fl : T (fits binary32 log)) (uc : T (finite (w .«center_log2_hz»))) (ur : T (finite (w .«radius_octaves»))) (ul : T (finite log))
     (kr : T (lt nought (w .«radius_octaves»))) where
@@ -136,7 +122,7 @@ module _ (w : Window) (log : Float) (fr : T (fits binary32 (w .«radius_octaves�
       (λ e.
       abs-above (sub binary32 log c) r ur kr
       (gap-above binary32 log c r fl fr ul uc ur
-      (not-le→lt log (add binary32 c r) fl (add-fits binary32 c r) (finite-number binary32 log ul) (add-number binary32 c r (finite-number binary32 c uc) ur) (sym (ap (λ (b : Bool). not b && le log (add binary32 c r)) e) ∙ h))))
+      (not-le→lt binary32 log (add binary32 c r) fl (add-fits binary32 c r) (finite-number binary32 log ul) (add-number binary32 c r (finite-number binary32 c uc) ur) (sym (ap (λ (b : Bool). not b && le log (add binary32 c r)) e) ∙ h))))
 
   flat-inside : touches w log ≡ false → taperOf (clamp (insideOf w log) nil one) ≡ nought
   unfolding taperOf insideOf ofBits

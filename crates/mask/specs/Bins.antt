@@ -1,6 +1,5 @@
 -- The bin table, line by line as the Rust's `MaskWorkspace::prepare`, with 01's refusals 1, 3 and 5 in this order. Definitions only.
 use Prim.Native.Nat.{ℕ, _+_, _/_}
-use mathlib.Core.Bool.{Bool, _&&_}
 use mathlib.Core.List.{List}
 use lib.Dec.{eqb, ltb}
 use lib.ListN.{length}

@@ -5,20 +5,23 @@ ghost use lib.ListN.{length};
 ghost use Rattle.lists.specs.Table.{table};
 ghost use Rattle.windows.specs.Opening.{nil};
 ghost use Rattle.mask.specs.Gains.{openAt};
-ghost use Rattle.mask.specs.Walk.{Part, Raised, Sorted};
+ghost use Rattle.mask.specs.Walk.{Numbers, Part, Raised, Sorted};
 use windows::Window;
 
+// Nothing in scratch is ever a NaN, so that the Rust's `max` is one test.
 fn raise(w: Window, logs: &[f32], scratch: &mut [f32], start: usize, end: usize)
-    requires { ⌜ (length (now logs) ≡ length (now scratch)) × (start ≤ end) × (end ≤ length (now logs)) ⌝ }
+    requires { ⌜ (length (now logs) ≡ length (now scratch)) × (start ≤ end) × (end ≤ length (now logs)) × Numbers (now scratch) ⌝ }
     ensures { λ _. ⌜ Part w (now (logs .entry)) (now (scratch .entry)) start end (now (scratch .exit)) ⌝ }
 {
     for i in start..end {
-        scratch[i] = floats::max32(scratch[i], windows::openness(w, logs[i]));
+        let o = scratch[i];
+        let v = windows::openness(w, logs[i]);
+        scratch[i] = floats::pick32(o < v, v, o);
     }
 }
 
 fn touch(w: Window, logs: &[f32], scratch: &mut [f32])
-    requires { ⌜ (length (now logs) ≡ length (now scratch)) × Sorted (now logs) ⌝ }
+    requires { ⌜ (length (now logs) ≡ length (now scratch)) × Sorted (now logs) × Numbers (now scratch) ⌝ }
     ensures { λ _. ⌜ Raised w (now (logs .entry)) (now (scratch .entry)) (now (scratch .exit)) ⌝ }
 {
     if w.amplitude <= 0.0 {

@@ -4,7 +4,7 @@ use native.Mathlib.Nat.{zero-mul, mul-one, mul-pos, zero-lt-suc}
 use native.Mathlib.Omega.{arith}
 use mathlib.Core.Path.{_≡_, refl, sym, ap, _∙_, subst}
 use mathlib.Core.Bool.{Bool, true, false, not, cond, _&&_, _||_}
-use lib.IntN.{ℤ, pos}
+use lib.IntN.{ℤ}
 use lib.Dec.{T, eqb, ltb, lt→ltb}
 use lib.Ieee.{Float, nan, inf, fin, Format, prec, emax, low, binary32, ofBits, up, down, round, add, sub, div, neg, lt, le, eq, fits}
 use lib.Ieee as Ieee
@@ -14,19 +14,9 @@ use Rattle.floats.specs.Choose.{abs, clamp}
 use Rattle.floats.proofs.Ends.{not-above, from-zero}
 use Rattle.floats.proofs.Gap.{one-number}
 use Rattle.floats.proofs.Rising.{nought, sub-falls}
+use Rattle.floats.proofs.Units.{one as i, one-fits, zero-fits}
 use Rattle.windows.specs.declared.Window.{Window}
 use Rattle.windows.specs.Opening.{nil, one, cubic, taperOf, insideOf}
-
-abbrev i : Float
-i = fin false 1 (pos 0)
-
-i-fits : T (fits binary32 i)
-unfolding fits
-i-fits = tt
-
-z-fits : T (fits binary32 nought)
-unfolding fits
-z-fits = tt
 
 or-left : (a b : Bool) → T a → T (a || b)
 or-left true b h = tt
@@ -53,8 +43,8 @@ at-most-one (inf true) p h = absurd h
 at-most-one (inf false) p h = refl
 at-most-one (fin true m e) p h = absurd h
 at-most-one (fin false m e) p h =
-    not-above binary32 (sub binary32 i (fin false m e)) i (sub-fits binary32 i (fin false m e)) i-fits
-    (subst (λ (x : Float). T (le (sub binary32 i (fin false m e)) x)) one-zero (sub-falls binary32 i nought (fin false m e) z-fits p (from-zero binary32 m e p) (one-number binary32 nought tt) (one-number binary32 (fin false m e) tt)))
+    not-above binary32 (sub binary32 i (fin false m e)) i (sub-fits binary32 i (fin false m e)) (one-fits binary32)
+    (subst (λ (x : Float). T (le (sub binary32 i (fin false m e)) x)) one-zero (sub-falls binary32 i nought (fin false m e) (zero-fits binary32 false) p (from-zero binary32 m e p) (one-number binary32 nought tt) (one-number binary32 (fin false m e) tt)))
 
 -- ---- a quotient of what has no minus by what is not at or below 0
 cond-unsigned : (b : Bool) (x y : Float) → T (unsigned x) → T (unsigned y) → T (unsigned (cond b x y))

@@ -1,13 +1,10 @@
 -- `opened` meets its contract: a walk over the windows.
 use borrow.Author.Needs.{needs}
-use mathlib.Core.Path.{_≡_, ap, _∙_}
-use Prim.Native.Nat.{ℕ, _-_}
+use mathlib.Core.Path.{ap, _∙_}
+use Prim.Native.Nat.{_-_}
 use Rattle.lists.specs.Walk.{Walked, walked-none, walked-more, walked-all}
 use Rattle.floats.specs.Choose.{max}
 use Rattle.windows.specs.Opening.{nil, opening, openedBy}
-use native.Mathlib.Omega.{arith}
-use Prim.Native.Nat.{ℕ, suc, _≤_, _<_, _+_, _-_}
-use mathlib.Core.Path.{_≡_, refl, sym, ap, _∙_}
 use Rattle.windows.proofs.opened.Statement.{statement}
 use Rattle.windows.proofs.opened.Tie as tie
 

@@ -1,9 +1,7 @@
 -- `bin_table` meets its contract: a test for each refusal, in 01's order.
 use borrow.Author.Needs.{needs}
-use mathlib.Core.Path.{_≡_, refl, sym, ap, _∙_}
+use mathlib.Core.Path.{refl, sym, _∙_}
 use borrow.Author.Tests.{lt-ltb, le-ltb, eq-eqb, ne-eqb}
-use mathlib.Core.List.{List}
-use lib.Ieee.{Float}
 use Rattle.lists.specs.Pick.{took, skipped}
 use Rattle.mask.specs.Bins.{preparedOf}
 use Rattle.mask.proofs.bins.bin_table.Statement.{statement}

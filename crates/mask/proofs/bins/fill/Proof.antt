@@ -1,7 +1,6 @@
 -- `fill` meets its contract: a logarithm for each bin.
 use borrow.Author.Needs.{needs}
-use native.Mathlib.Omega.{arith}
-use Prim.Native.Nat.{ℕ, _-_}
+use Prim.Native.Nat.{_-_}
 use mathlib.Core.Path.{refl}
 use lib.ListN.{length}
 use Rattle.lists.specs.Table.{Filled, filled-none, filled-more, filled-all}

@@ -1,6 +1,5 @@
 -- `finish` meets its contract: a gain for each bin.
 use borrow.Author.Needs.{needs}
-use native.Mathlib.Omega.{arith}
 use Prim.Native.Nat.{ℕ, _-_}
 use mathlib.Core.Path.{sym}
 use lib.ListN.{length, getD}

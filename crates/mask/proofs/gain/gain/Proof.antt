@@ -1,6 +1,6 @@
 -- `gain` meets its contract: a shut bin has the gain of 0.
 use borrow.Author.Needs.{needs}
-use mathlib.Core.Path.{_≡_, ap, _∙_}
+use mathlib.Core.Path.{ap, _∙_}
 use denote.Floats.{passes}
 use lib.Ieee.{Float}
 use Rattle.floats.specs.Names.{mul32}

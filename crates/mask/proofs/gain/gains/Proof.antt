@@ -1,6 +1,6 @@
 -- `gains` meets its contract: a test for each refusal, in 01's order, then the rule of depth and activity.
 use borrow.Author.Needs.{needs}
-use mathlib.Core.Path.{_≡_, refl, sym, ap, _∙_}
+use mathlib.Core.Path.{refl, sym, _∙_}
 use borrow.Author.Tests.{eq-eqb, ne-eqb}
 use Rattle.lists.specs.Pick.{took, skipped}
 use Rattle.mask.specs.Gains.{gainsOf}

@@ -1,11 +1,10 @@
 -- `shape` meets its contract: the openness by all windows, and the gains from it.
 use borrow.Author.Needs.{needs}
 use Prim.Native.Nat.{ℕ}
-use mathlib.Core.Path.{_≡_, sym, ap, _∙_}
-use lib.Ieee.{Float, nan}
-use Rattle.lists.specs.Table.{table, length-table, table-over}
+use mathlib.Core.Path.{sym, ap, _∙_}
+use lib.Ieee.{nan}
+use Rattle.lists.specs.Table.{table, table-over}
 use Rattle.windows.specs.Opening.{nil}
-use lib.ListN.{length}
 use Rattle.mask.specs.Gains.{openAt, gainOf}
 use Rattle.mask.proofs.Ordered.{sorted}
 use Rattle.mask.proofs.gain.shape.Statement.{statement}

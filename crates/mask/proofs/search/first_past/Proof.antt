@@ -1,6 +1,6 @@
 -- `first_past` meets its contract: a search by halves.
 use borrow.Author.Needs.{needs}
-use Prim.Native.Nat.{ℕ, _+_, _-_, _/_}
+use Prim.Native.Nat.{ℕ, _+_, _/_}
 use mathlib.Core.Path.{refl, ap}
 use lib.ListN.{length, getD}
 use lib.Ieee.{nan, le}

@@ -1,12 +1,15 @@
 -- `raise` meets its contract: a range of bins.
 use borrow.Author.Needs.{needs}
 use native.Mathlib.Omega.{arith}
-use Prim.Native.Nat.{ℕ, _-_, _≤_}
-use mathlib.Core.Path.{_≡_, ap, _∙_, subst}
-use lib.ListN.{getD}
-use lib.Ieee.{nan}
+use Prim.Native.Nat.{ℕ, _-_, _≤_, _<_}
+use mathlib.Core.Path.{_≡_, sym, ap, _∙_, subst}
+use mathlib.Core.Bool.{not}
+use lib.Dec.{T}
+use lib.ListN.{length, getD}
+use lib.Ieee.{Float, nan, isNan}
 use Rattle.floats.specs.Choose.{max}
 use Rattle.mask.specs.Walk.{Part}
+use Rattle.mask.proofs.Raising.{one-test}
 use Rattle.mask.proofs.Ranges.{part-none, part-more}
 use Rattle.mask.proofs.touch.raise.Statement.{statement}
 use Rattle.mask.proofs.touch.raise.Tie as tie
@@ -20,11 +23,11 @@ abbrev μ-loop : tie.MeasureT-loop
 loop-holds : tie.Need-loop-holds Inv-loop μ-loop
 loop-holds c = (part-none _ _ _ _, search needs)
 
-mul-max32 : tie.Need-mul-max32 Inv-loop μ-loop
-mul-max32 c = search needs
+mul-o : tie.Need-mul-o Inv-loop μ-loop
+mul-o c = search needs
 
-slice-read-max32 : tie.Need-slice-read-max32 Inv-loop μ-loop
-slice-read-max32 c = search needs
+slice-read-o : tie.Need-slice-read-o Inv-loop μ-loop
+slice-read-o c = search needs
 
 mul-openness : tie.Need-mul-openness Inv-loop μ-loop
 mul-openness c = search needs
@@ -35,8 +38,8 @@ shared-slice-read-openness c = search needs
 openness-requires : tie.Need-openness-requires Inv-loop μ-loop
 openness-requires c κs = search needs
 
-max32-requires : tie.Need-max32-requires Inv-loop μ-loop
-max32-requires c κs = search needs
+pick32-requires : tie.Need-pick32-requires Inv-loop μ-loop
+pick32-requires c κs = search needs
 
 mul-scratch : tie.Need-mul-scratch Inv-loop μ-loop
 mul-scratch c = search needs
@@ -55,7 +58,9 @@ loop-again c =
     let l = c .before .before .before .before .before .loop in
     let s = c .before .before .before .before .before .before .before .before in
     let t = c .before .before .before .before .loop-test .taken in
-    (part-more _ _ _ _ (l .i) (l .scratch) _ (l .inv .0) (omega (arith, s .pre, t)) (c .max32 .ensures ∙ ap (max (getD (l .scratch) (l .i) nan)) (c .before .openness .ensures)), omega (arith, t))
+    let h : l .i < length (s .args .scratch .now) = omega (arith, s .pre, t) in
+    let u = subst (λ (x : Float). T (not (isNan x))) (sym (l .inv .0 .over (l .i) (omega arith))) (s .pre .3 (l .i) h) in
+    (part-more _ _ _ _ (l .i) (l .scratch) _ (l .inv .0) h (c .pick32 .ensures ∙ one-test (getD (l .scratch) (l .i) nan) _ u ∙ ap (max (getD (l .scratch) (l .i) nan)) (c .before .openness .ensures)), omega (arith, t))
 
 same-length : tie.Need-same-length Inv-loop μ-loop
 same-length c = search needs
@@ -74,12 +79,12 @@ raise-spec =
     Inv-loop
     μ-loop
     loop-holds
-    mul-max32
-    slice-read-max32
+    mul-o
+    slice-read-o
     mul-openness
     shared-slice-read-openness
     openness-requires
-    max32-requires
+    pick32-requires
     mul-scratch
     slice-write-scratch
     add-i

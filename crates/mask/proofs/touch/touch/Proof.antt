@@ -24,7 +24,7 @@ first-past-requires c κs =
     (c .before .before .before .if2 .left, s .pre .1 .upto _ (add-fits binary32 (s .args .w .«center_log2_hz») (s .args .w .«radius_octaves»)))
 
 raise-requires : tie.Need-raise-requires
-raise-requires c κs = (c .before .before .before .before .before .before .before .before .before .before .before .pre .0, omega (arith, c .before .if3 .taken), c .before .before .first-past .ensures .high)
+raise-requires c κs = (c .before .before .before .before .before .before .before .before .before .before .before .pre .0, omega (arith, c .before .if3 .taken), c .before .before .first-past .ensures .high, c .before .before .before .before .before .before .before .before .before .before .before .pre .2)
 
 same-length : tie.Need-same-length
 same-length c = search needs

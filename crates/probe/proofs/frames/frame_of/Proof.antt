@@ -1,11 +1,7 @@
 -- `frame_of` meets its contract: a window for each index.
 use borrow.Author.Needs.{needs}
 use Prim.Native.Nat.{_-_}
-use mathlib.Core.Path.{ap}
-use mathlib.Core.List.{List}
 use Rattle.lists.specs.Table.{Filled, filled-none, filled-more, filled-all}
-use Rattle.windows.specs.declared.Window.{Window}
-use Rattle.windows.specs.declared.Frame.{Frame}
 use Rattle.probe.specs.Frames.{windowAt, frameOf}
 use Rattle.probe.proofs.frames.frame_of.Statement.{statement}
 use Rattle.probe.proofs.frames.frame_of.Tie as tie
