@@ -24,6 +24,14 @@ use settings::Direction;
 use settings::Shape;
 use timing::SprinkleStream;
 
+mod frames;
+
+pub use frames::rk_probe_attenuation_db;
+pub use frames::rk_probe_bin_table;
+pub use frames::rk_probe_gains;
+pub use frames::rk_probe_openness;
+pub use frames::rk_probe_taper;
+
 #[no_mangle]
 pub extern "C" fn rk_probe_floor32(x: f32) -> f32
     ensures { λ r. ⌜ r ≡ floor binary32 x ⌝ }
