@@ -1,11 +1,10 @@
 // A frame: frees the places that are due, and shows every particle that holds one.
 ghost use mathlib.Core.Path.{_≡_};
-use engine::Engine;
+ghost use mathlib.Core.List.{map};
+ghost use Rattle.frame.specs.Frame.{secondsOf, retirementOf, dueOf, sweepOne, powerOf, envelopeOf, amplitudeOf, nothing, shownOf, radiusOf, windowOf, windowsOf, activityOf, accepted};
+ghost use Rattle.windows.specs.Opening.{none};
 use pool::Particle;
 use pool::Retired;
-use refusals::Answer;
-use refusals::Refusal;
-use windows::Frame;
 use windows::Window;
 
 pub const RETIRE_SECONDS: f64 = 0.02;
@@ -20,24 +19,24 @@ pub struct Shown {
     pub partials: [u8; 3],
 }
 
-pub struct Framed {
-    pub answer: Answer,
-    pub frame: Frame,
-    pub engine: Engine,
-}
-
-fn seconds(since: u64, sample: u64, rate: f64) -> f64 {
+fn seconds(since: u64, sample: u64, rate: f64) -> f64
+    ensures { λ r. ⌜ r ≡ secondsOf since sample rate ⌝ }
+{
     std::num::nearest_u64_to_f64(std::num::wrapping_sub_u64(sample, since)) / rate
 }
 
-fn retirement(k: Retired, sample: u64, rate: f64) -> f64 {
+fn retirement(k: Retired, sample: u64, rate: f64) -> f64
+    ensures { λ r. ⌜ r ≡ retirementOf k sample rate ⌝ }
+{
     match k {
         Retired::Not => 0.0,
         Retired::At(at) => seconds(at, sample, rate) / RETIRE_SECONDS,
     }
 }
 
-fn due(p: Particle, sample: u64, rate: f64) -> bool {
+fn due(p: Particle, sample: u64, rate: f64) -> bool
+    ensures { λ r. ⌜ r ≡ dueOf sample rate p ⌝ }
+{
     let k = p.retirement;
     if seconds(p.birth, sample, rate) >= p.lifetime {
         return true;
@@ -45,7 +44,9 @@ fn due(p: Particle, sample: u64, rate: f64) -> bool {
     retirement(k, sample, rate) >= 1.0
 }
 
-fn sweep_one(p: Particle, sample: u64, rate: f64) -> Particle {
+fn sweep_one(p: Particle, sample: u64, rate: f64) -> Particle
+    ensures { λ r. ⌜ r ≡ sweepOne sample rate p ⌝ }
+{
     if p.active {
         if due(p, sample, rate) {
             return pool::free_particle();
@@ -54,7 +55,9 @@ fn sweep_one(p: Particle, sample: u64, rate: f64) -> Particle {
     p
 }
 
-fn sweep(particles: [Particle; 64], sample: u64, rate: f64) -> [Particle; 64] {
+fn sweep(particles: [Particle; 64], sample: u64, rate: f64) -> [Particle; 64]
+    ensures { λ r. ⌜ r ≡ map (sweepOne sample rate) particles ⌝ }
+{
     let mut out = particles;
     for i in 0..64 {
         let p = out[i];
@@ -63,31 +66,50 @@ fn sweep(particles: [Particle; 64], sample: u64, rate: f64) -> [Particle; 64] {
     out
 }
 
-fn powered(x: f32, power: u32) -> f32 {
+fn powered(x: f32, power: u32) -> f32
+    ensures { λ r. ⌜ r ≡ powerOf x power ⌝ }
+{
     if power == 3 {
         return x * x * x;
     }
     x
 }
 
-fn envelope(x: f32, attack: f32, decay_power: u32) -> f32 {
+fn envelope(x: f32, attack: f32, decay_power: u32) -> f32
+    ensures { λ r. ⌜ r ≡ envelopeOf x attack «decay_power» ⌝ }
+{
     if x < attack {
         return windows::taper(x / attack);
     }
     powered(windows::taper((1.0 - x) / (1.0 - attack)), decay_power)
 }
 
-fn amplitude(p: Particle, sample: u64, rate: f64) -> f32 {
+fn amplitude(p: Particle, sample: u64, rate: f64) -> f32
+    ensures { λ r. ⌜ r ≡ amplitudeOf sample rate p ⌝ }
+{
     let k = p.retirement;
     let x = floats::f64_to_f32(seconds(p.birth, sample, rate) / p.lifetime);
     let fade = floats::f64_to_f32(retirement(k, sample, rate));
     p.strength * envelope(x, p.attack, p.decay_power) * windows::taper(1.0 - fade)
 }
 
+fn nothing_shown() -> Shown
+    ensures { λ r. ⌜ r ≡ nothing ⌝ }
+{
+    Shown {
+        root_log: 0.0,
+        amplitude: 0.0,
+        width: 0.0,
+        partials: [0u8; 3],
+    }
+}
+
 // A free place shows nothing.
-fn show(p: Particle, sample: u64, rate: f64) -> Shown {
-    let partials = p.partials;
+fn show(p: Particle, sample: u64, rate: f64) -> Shown
+    ensures { λ r. ⌜ r ≡ shownOf sample rate p ⌝ }
+{
     if p.active {
+        let partials = p.partials;
         let root_log = elementary::log2(p.frequency_hz) + p.octave;
         let amplitude = amplitude(p, sample, rate);
         return Shown {
@@ -97,18 +119,14 @@ fn show(p: Particle, sample: u64, rate: f64) -> Shown {
             partials,
         };
     }
-    Shown {
-        root_log: 0.0,
-        amplitude: 0.0,
-        width: 0.0,
-        partials: [0u8; 3],
-    }
+    nothing_shown()
 }
 
-fn show_all(particles: [Particle; 64], sample: u64, rate: f64) -> [Shown; 64] {
-    let p = particles[0];
-    let first = show(p, sample, rate);
-    let mut out = [first; 64];
+fn show_all(particles: [Particle; 64], sample: u64, rate: f64) -> [Shown; 64]
+    ensures { λ r. ⌜ r ≡ map (shownOf sample rate) particles ⌝ }
+{
+    let nothing = nothing_shown();
+    let mut out = [nothing; 64];
     for i in 0..64 {
         let p = particles[i];
         out[i] = show(p, sample, rate);
@@ -117,23 +135,37 @@ fn show_all(particles: [Particle; 64], sample: u64, rate: f64) -> [Shown; 64] {
 }
 
 // Never narrower than a bin.
-fn radius(width: f32, bin_hz: f32, hz: f32) -> f32 {
+fn radius(width: f32, bin_hz: f32, hz: f32) -> f32
+    ensures { λ r. ⌜ r ≡ radiusOf width «bin_hz» hz ⌝ }
+{
     let bin = floats::max32(bin_hz, 0.0) / floats::max32(hz, 1.0);
     floats::max32(width, elementary::log2(1.0 + bin))
 }
 
+fn no_window() -> Window
+    ensures { λ r. ⌜ r ≡ none ⌝ }
+{
+    Window {
+        center_log2_hz: 0.0,
+        radius_octaves: 0.0,
+        amplitude: 0.0,
+    }
+}
+
 // The window of harmonic `partial`, or none where it is 0 or too high to show.
-fn window(s: Shown, partial: u8, logs: [f32; 24], bin_hz: f32, max_hz: f32) -> Window {
+fn window(s: Shown, partial: u8, logs: [f32; 24], bin_hz: f32, max_hz: f32) -> Window
+    ensures { λ r. ⌜ r ≡ windowOf logs «bin_hz» «max_hz» s partial ⌝ }
+{
     if partial == 0 {
-        return windows::no_window();
+        return no_window();
     }
     if partial > 24 {
-        return windows::no_window();
+        return no_window();
     }
     let center = s.root_log + logs[partial as usize - 1];
     let hz = elementary::exp2(center);
     if hz >= max_hz {
-        return windows::no_window();
+        return no_window();
     }
     let radius = radius(s.width, bin_hz, hz);
     Window {
@@ -144,8 +176,10 @@ fn window(s: Shown, partial: u8, logs: [f32; 24], bin_hz: f32, max_hz: f32) -> W
 }
 
 // The window of partial w of place p stands at p + 64 w.
-fn windows(shown: [Shown; 64], logs: [f32; 24], bin_hz: f32, max_hz: f32) -> [Window; 192] {
-    let none = windows::no_window();
+fn windows(shown: [Shown; 64], logs: [f32; 24], bin_hz: f32, max_hz: f32) -> [Window; 192]
+    ensures { λ r. ⌜ r ≡ windowsOf logs «bin_hz» «max_hz» shown ⌝ }
+{
+    let none = no_window();
     let mut out = [none; 192];
     for j in 0..192 {
         let s = shown[j % 64];
@@ -156,7 +190,9 @@ fn windows(shown: [Shown; 64], logs: [f32; 24], bin_hz: f32, max_hz: f32) -> [Wi
 }
 
 // The background comes and goes over 0.05 s; below 1e-6 a disabled one is gone.
-fn activity(before: f32, enabled: bool, elapsed_seconds: f32) -> f32 {
+fn activity(before: f32, enabled: bool, elapsed_seconds: f32) -> f32
+    ensures { λ r. ⌜ r ≡ activityOf before enabled «elapsed_seconds» ⌝ }
+{
     let target = floats::pick32(enabled, 1.0, 0.0);
     let step = 1.0 - elementary::exp(-elapsed_seconds / TRANSITION_SECONDS);
     let after = before + (target - before) * step;
@@ -166,45 +202,12 @@ fn activity(before: f32, enabled: bool, elapsed_seconds: f32) -> f32 {
     floats::pick32(after < 0.000001, 0.0, after)
 }
 
-fn accepts(elapsed_seconds: f32) -> bool {
+fn accepts(elapsed_seconds: f32) -> bool
+    ensures { λ r. ⌜ r ≡ accepted «elapsed_seconds» ⌝ }
+{
     if floats::is_finite32(elapsed_seconds) {
         elapsed_seconds >= 0.0
     } else {
         false
-    }
-}
-
-fn framed(engine: Engine, bin_hz: f32, elapsed_seconds: f32) -> Framed {
-    let config = engine.config;
-    let prepared = engine.prepared;
-    let logs = prepared.partial_logs;
-    let sample = engine.clock.sample;
-    let rate = prepared.sample_rate;
-    let particles = engine.particles;
-    let held = sweep(particles, sample, rate);
-    let shown = show_all(held, sample, rate);
-    let windows = windows(shown, logs, bin_hz, births::max_hz(rate));
-    let activity = activity(engine.activity, config.enabled, elapsed_seconds);
-    let mut out = engine;
-    out.particles = held;
-    out.activity = activity;
-    out.tally.attempts = 0;
-    let frame = Frame { windows, activity };
-    Framed {
-        answer: Answer::Taken,
-        frame,
-        engine: out,
-    }
-}
-
-// Evaluated once at the spectral boundary; it renews the attempts.
-pub fn take_frame(engine: Engine, bin_hz: f32, elapsed_seconds: f32) -> Framed {
-    if accepts(elapsed_seconds) {
-        return framed(engine, bin_hz, elapsed_seconds);
-    }
-    Framed {
-        answer: Answer::Refused(Refusal::Seconds),
-        frame: windows::empty_frame(),
-        engine,
     }
 }
