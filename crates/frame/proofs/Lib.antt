@@ -1,1 +1,3 @@
 pub mod Listed
+pub mod Grid
+pub mod Topped
