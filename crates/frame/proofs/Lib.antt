@@ -1,3 +1,5 @@
 pub mod Listed
 pub mod Grid
 pub mod Topped
+pub mod Unit
+pub mod Background
