@@ -3,3 +3,7 @@ pub mod Grid
 pub mod Topped
 pub mod Unit
 pub mod Background
+pub mod Strengths
+pub mod Places
+pub mod Shapes
+pub mod Windowed

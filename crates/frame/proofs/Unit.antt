@@ -148,7 +148,7 @@ module _ (m : ℕ) (e : ℤ) (most : m * up e ≤ down e) where
   under (fin true n g) h = absurd h
   under (fin false n g) h = to-one (m * up e * down g + n * up g * down e) (down e * down g) (mul-pos (down-pos e) (down-pos g)) (stair (m * up e) (down e) (n * up g) (down g) k k-up h k-most)
 
-to-nought : (f : Format) (m : ℕ) (e : ℤ) → T (fits f (fin true m e)) → T (le (fin true m e) nought)
+pub to-nought : (f : Format) (m : ℕ) (e : ℤ) → T (fits f (fin true m e)) → T (le (fin true m e) nought)
 unfolding fits isNan
 to-nought f m e p = key→le f (fin true m e) nought p tt tt tt (omega arith)
 
@@ -168,7 +168,7 @@ whole (fin true m e) u =
 
 -- ---- a part of the way up to 1, and of the way down to 0
 module _ (f : Format) where
-  from-round : (a b : ℕ) → 0 < b → T (le nought (round f false a b))
+  pub from-round : (a b : ℕ) → 0 < b → T (le nought (round f false a b))
   unfolding fits
   from-round a b h = subst (λ (z : Float). T (le z (round f false a b))) (own-round f false 0 (pos 0) tt) (round-mono f 0 1 a b (zero-lt-suc 0) h (omega arith))
 
