@@ -4,7 +4,8 @@ ghost use mathlib.Core.Path.{_≡_};
 ghost use mathlib.Core.List.{map};
 ghost use Rattle.pool.specs.Pool.{freeParticle, firstOf, retiredOf, retireOne, retireBoundOne, retuneOne, activeCount, freePlace};
 
-pub const MAX_PARTICLES: usize = 64;
+// The slot of a particle that follows none.
+pub const NO_SOURCE: usize = 256;
 
 // When a particle was first retired.
 pub enum Retired {
@@ -14,7 +15,7 @@ pub enum Retired {
 
 pub struct Particle {
     pub active: bool,
-    // The slot that it follows; 256 for none.
+    // The slot that it follows.
     pub source: usize,
     pub birth: u64,
     pub lifetime: f64,
@@ -34,7 +35,7 @@ pub fn free_particle() -> Particle
 {
     Particle {
         active: false,
-        source: 256,
+        source: NO_SOURCE,
         birth: 0,
         lifetime: 0.0,
         frequency_hz: 0.0,
@@ -64,10 +65,11 @@ fn marked(p: Particle, sample: u64) -> Particle
 {
     let retirement = p.retirement;
     let partials = p.partials;
+    let source = NO_SOURCE;
     let at = first(retirement, sample);
     Particle {
         active: p.active,
-        source: 256,
+        source,
         birth: p.birth,
         lifetime: p.lifetime,
         frequency_hz: p.frequency_hz,
