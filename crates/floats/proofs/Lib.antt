@@ -39,3 +39,5 @@ pub mod Products
 pub mod Ends
 pub mod Wholes
 pub mod Gap
+pub mod Grid
+pub mod Unit

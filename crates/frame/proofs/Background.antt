@@ -1,11 +1,10 @@
 -- The background's activity stays from 0 to 1: from a value there, over any accepted seconds.
-use mathlib.Core.Path.{_≡_, refl, subst}
-use mathlib.Core.Bool.{Bool, true, false, not, cond}
+use mathlib.Core.Bool.{Bool, true, false, cond}
 use lib.IntN.{pos}
 use lib.Dec.{T}
-use lib.Ieee.{Float, nan, inf, fin, binary32, ofBits, sub, add, div, neg, lt, le, eq, fits, isNan}
+use lib.Ieee.{Float, fin, binary32, ofBits, div, neg, lt, le, eq, fits, isNan}
 use lib.Ieee as Ieee
-use lib.Ieee.Fits.{div-fits, neg-fits, and-l, and-r}
+use lib.Ieee.Fits.{div-fits, and-l, and-r}
 use lib.Ieee.Scale.{finite}
 use Rattle.lists.specs.Pick.{pick}
 use Rattle.floats.specs.Names.{f32, div32}
@@ -17,7 +16,7 @@ use Rattle.elementary.proofs.PowerLike.{in-unit}
 use Rattle.elementary.proofs.PowerRises.{exp-like}
 use Rattle.elementary.proofs.PowerValues.{power-fits}
 use Rattle.frame.specs.Frame.{stepOf, movedOf, activityOf, accepted}
-use Rattle.frame.proofs.Unit.{Unit, nought-unit, rest-unit, risen-unit, fallen-unit}
+use Rattle.floats.proofs.Unit.{Unit, nought-fits, nought-unit, rest-unit, risen-unit, fallen-unit}
 
 -- TRANSITION_SECONDS
 abbrev transition : Float
@@ -25,10 +24,6 @@ transition = f32 0x3d4ccccd
 
 abbrev minus-nought : Float
 minus-nought = fin true 0 (pos 0)
-
-nought-fits : T (fits binary32 nought)
-unfolding fits
-nought-fits = tt
 
 transition-above : T (lt nought transition)
 unfolding lt ofBits

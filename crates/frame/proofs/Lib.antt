@@ -1,7 +1,3 @@
-pub mod Listed
-pub mod Grid
-pub mod Topped
-pub mod Unit
 pub mod Background
 pub mod Strengths
 pub mod Places

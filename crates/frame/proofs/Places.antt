@@ -1,18 +1,18 @@
 -- Where a window stands: that of partial w of place p at p + 64 w, and a free place shows none.
 use Prim.Native.Nat.{ℕ, zero, suc, _+_, _*_, _/_, _%_, _<_}
 use native.Mathlib.Omega.{arith}
-use mathlib.Core.Path.{_≡_, refl, sym, ap, _∙_}
+use mathlib.Core.Path.{_≡_, refl, ap, _∙_}
 use mathlib.Core.Bool.{false}
 use mathlib.Core.List.{List, map}
 use lib.Ieee.{Float}
 use lib.ListN.{length, getD}
 use Rattle.lists.specs.Default.{getD-any}
-use Rattle.lists.specs.Pick.{pick, passed}
+use Rattle.lists.specs.Pick.{pick}
 use Rattle.lists.specs.Table.{table-at}
 use Rattle.pool.specs.declared.Particle.{Particle}
 use Rattle.windows.specs.Opening.{none}
 use Rattle.frame.specs.Frame.{nothing, shownOf, windowOf, windowAt, windowsOf, pastShown}
-use Rattle.frame.proofs.Listed.{length-map, getD-map}
+use Rattle.lists.specs.Copied.{length-map, getD-map}
 use Rattle.frame.specs.declared.Shown.{Shown}
 use Rattle.windows.specs.declared.Window.{Window}
 

@@ -1,25 +1,23 @@
 -- The windows of a particle such as a birth makes: the centre is finite, the radius above 0, and finite where the bin's width is.
-use Prim.Native.Nat.{ℕ, zero, suc, _+_, _-_, _*_, _^_, _≤_, _<_}
-use native.Mathlib.Nat.{le-trans, le-of-eq, mul-one, zero-mul, mul-comm, mul-assoc, mul-right-comm, mul-pos, mul-le-mul-left, mul-le-mul-right, le-of-suc-le-suc, zero-lt-suc}
+use Prim.Native.Nat.{ℕ, zero, suc, _-_, _*_, _^_, _≤_, _<_}
+use native.Mathlib.Nat.{le-trans, le-of-eq, mul-one, zero-mul, mul-pos, mul-le-mul-left, le-of-suc-le-suc, zero-lt-suc}
 use native.Mathlib.Omega.{arith}
-use mathlib.Core.Path.{_≡_, refl, sym, ap, _∙_, subst}
+use mathlib.Core.Path.{_≡_, refl, sym, ap, subst}
 use mathlib.Core.Bool.{Bool, true, false, not, cond}
 use mathlib.Core.List.{List}
-use mathlib.Core.Logic.{inl, inr}
-use lib.IntN.{ℤ, pos, negsuc}
+use lib.IntN.{ℤ, pos}
 use lib.Dec.{T, lit≤, lt→ltb, eqb·suc-zero}
-use lib.Pow.{pow-pos}
-use lib.Ieee.{Float, nan, inf, fin, Format, binary32, ofBits, toBits, up, down, round, add, sub, mul, div, neg, lt, le, eq, fits, isNan}
+use lib.Ieee.{Float, nan, inf, fin, binary32, ofBits, toBits, up, down, round, add, div, neg, lt, le, eq, fits, isNan}
 use lib.Ieee as Ieee
 use lib.Ieee.Order.{round-mono}
-use lib.Ieee.Fits.{up-pos, down-pos, add-fits, div-fits}
+use lib.Ieee.Fits.{up-pos, add-fits, div-fits}
 use lib.Ieee.Bits.{is-false, ofBits-toBits}
 use lib.Ieee.Scale.{finite}
 use lib.ListN.{getD}
 use Rattle.lists.specs.Pick.{by-case}
 use Rattle.floats.specs.Choose.{max}
 use Rattle.floats.proofs.Bounds.{add-mag}
-use Rattle.floats.proofs.Choosing.{max-fits, max-left, max-right}
+use Rattle.floats.proofs.Choosing.{max-fits, max-right}
 use Rattle.floats.proofs.Ends.{mag-between}
 use Rattle.floats.proofs.Gap.{quotient-number}
 use Rattle.floats.proofs.Mag.{Mag, le-of, mag-le}
@@ -31,15 +29,15 @@ use Rattle.floats.proofs.Spans.{lt-le}
 use Rattle.floats.proofs.Values.{own-round}
 use Rattle.elementary.specs.Log2.{log2Of}
 use Rattle.elementary.proofs.LogExact.{log2-fits}
-use Rattle.elementary.proofs.LogRises.{Within, least, most, log2-within}
+use Rattle.elementary.proofs.LogRises.{least, most, log2-within}
 use Rattle.pool.specs.declared.Particle.{Particle}
 use Rattle.windows.specs.Opening.{nil, one}
 use Rattle.frame.specs.declared.Shown.{Shown}
 use Rattle.frame.specs.Frame.{rootLogOf, centerOf, radiusOf}
-use Rattle.frame.proofs.Unit.{i, to-nought, from-round}
+use Rattle.floats.proofs.Unit.{i, i-fits, nought-fits, one-and-nothing, to-nought, from-round}
 
 -- ---- the centre
-log-mag : (x : Float) → T (fits binary32 x) → T (lt nought x) → T (finite x) → Mag (log2Of x) 149
+pub log-mag : (x : Float) → T (fits binary32 x) → T (lt nought x) → T (finite x) → Mag (log2Of x) 149
 unfolding fits neg
 log-mag x p h f = let w = log2-within x p h f in mag-between binary32 least most (log2Of x) 149 tt (log2-fits x) (w .from) (w .to) (omega arith) (omega arith)
 
@@ -83,18 +81,6 @@ largest-is = refl
 one-more : add binary32 i largest ≡ largest
 unfolding add Ieee.sum round Ieee.units Ieee.odd Ieee.size Ieee.span Ieee.climb
 one-more = refl
-
-one-and-nothing : add binary32 i nought ≡ i
-unfolding add Ieee.sum round Ieee.units Ieee.odd Ieee.size Ieee.span Ieee.climb
-one-and-nothing = refl
-
-nought-fits : T (fits binary32 nought)
-unfolding fits
-nought-fits = tt
-
-i-fits : T (fits binary32 i)
-unfolding fits
-i-fits = tt
 
 largest-fits : T (fits binary32 largest)
 unfolding fits

@@ -1,13 +1,12 @@
 -- The amplitude of a particle such as a birth makes lies from 0 to 1, at any sample: each factor does.
-use Prim.Native.Nat.{ℕ, zero, suc, _+_, _-_, _*_, _^_, _≤_, _<_}
-use native.Mathlib.Nat.{le-trans, le-of-eq, mul-one, one-mul, mul-comm, mul-pos, mul-le-mul, zero-lt-suc}
+use Prim.Native.Nat.{ℕ, _-_, _*_, _^_, _<_}
+use native.Mathlib.Nat.{le-trans, le-of-eq, one-mul, mul-pos, mul-le-mul, zero-lt-suc}
 use native.Mathlib.Omega.{arith}
-use mathlib.Core.Path.{_≡_, refl, sym, ap, _∙_, subst}
-use mathlib.Core.Bool.{Bool, true, false, not}
-use lib.IntN.{ℤ, pos, negsuc}
+use mathlib.Core.Bool.{true, false, not}
+use lib.IntN.{pos}
 use lib.Dec.{T, eqb, ltb→lt}
 use lib.Pow.{pow-pos}
-use lib.Ieee.{Float, nan, inf, fin, binary32, binary64, ofBits, ofInt, up, down, round, add, sub, mul, div, neg, lt, le, eq, fits, isNan}
+use lib.Ieee.{Float, nan, inf, fin, binary32, binary64, ofBits, ofInt, up, down, round, add, sub, mul, div, neg, lt, fits, isNan}
 use lib.Ieee as Ieee
 use lib.Ieee.Fits.{down-pos, mul-fits, sub-fits, div-fits, round-fits}
 use lib.Ieee.Order.{round-mono}
@@ -16,22 +15,21 @@ use borrow.Author.Tests.{le-ltb}
 use Rattle.lists.specs.Pick.{either}
 use Rattle.floats.specs.Names.{f64}
 use Rattle.floats.specs.Convert.{convert}
-use Rattle.floats.proofs.Casting.{convert-fits, convert-number}
+use Rattle.floats.proofs.Casting.{convert-number}
 use Rattle.floats.proofs.Floor.{round-number}
 use Rattle.floats.proofs.Gap.{quotient-number, one-number}
 use Rattle.floats.proofs.Mag.{mag-finite, within}
 use Rattle.floats.proofs.Rising.{nought, not-above}
-use Rattle.floats.proofs.Rules.{finite-number}
 use Rattle.floats.proofs.Spans.{lt-le}
-use Rattle.floats.proofs.Values.{Fine, fine}
+use Rattle.floats.proofs.Values.{fine}
 use Rattle.pool.specs.declared.Particle.{Particle}
 use Rattle.pool.specs.declared.Retired.{Retired}
 use Rattle.pool.specs.declared.Retired.the-variants.{Not, At}
 use Rattle.windows.specs.Opening.{taperOf, cubic}
 use Rattle.windows.proofs.Tapered.{taper-finite}
 use Rattle.frame.specs.Frame.{elapsedOf, secondsOf, retirementOf, powerOf, envelopeOf, passedOf, fadeOf, amplitudeOf}
-use Rattle.frame.proofs.Topped.{taper-most}
-use Rattle.frame.proofs.Unit.{i, Unit, unit-finite, product-unit, rest-unit}
+use Rattle.windows.proofs.Topped.{taper-most}
+use Rattle.floats.proofs.Unit.{i, nought-fits, Unit, product-unit}
 
 -- what the amplitude needs of a particle; a birth gives it
 pub record Timed (p : Particle) : Type 0 where
@@ -62,10 +60,6 @@ smallest = round binary32 false 1 (2 ^ 149)
 smallest-above : T (lt nought smallest)
 unfolding smallest round Ieee.units Ieee.odd Ieee.size Ieee.span Ieee.climb lt
 smallest-above = tt
-
-nought-fits : T (fits binary32 nought)
-unfolding fits
-nought-fits = tt
 
 left-above : (x : Float) → T (fits binary32 x) → T (lt nought x) → T (lt x i) → T (lt nought (sub binary32 i x)) × T (finite (sub binary32 i x))
 unfolding lt sub add neg Ieee.sum smallest

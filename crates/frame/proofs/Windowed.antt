@@ -20,7 +20,7 @@ use Rattle.windows.specs.declared.Window.{Window}
 use Rattle.windows.specs.Opening.{none}
 use Rattle.frame.specs.declared.Shown.{Shown}
 use Rattle.frame.specs.Frame.{rootLogOf, amplitudeOf, nothing, shownOf, centerOf, placedOf, windowOf}
-use Rattle.frame.proofs.Unit.{Unit}
+use Rattle.floats.proofs.Unit.{Unit}
 use Rattle.frame.proofs.Strengths.{Timed, Rated, amplitude-unit}
 use Rattle.frame.proofs.Shapes.{Pitched, Logs, root-mag, centre-mag, radius-above, radius-finite}
 

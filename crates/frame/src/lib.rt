@@ -2,9 +2,14 @@
 ghost use mathlib.Core.Path.{_≡_};
 ghost use mathlib.Core.List.{map};
 ghost use Rattle.frame.specs.Frame.{secondsOf, retirementOf, dueOf, sweepOne, powerOf, envelopeOf, amplitudeOf, nothing, shownOf, radiusOf, windowOf, windowsOf, activityOf, accepted};
+ghost use Rattle.frame.specs.Call.{renewedOf, takenOf, framedOf};
 ghost use Rattle.windows.specs.Opening.{none};
+use engine::Engine;
 use pool::Particle;
 use pool::Retired;
+use refusals::Answer;
+use refusals::Refusal;
+use windows::Frame;
 use windows::Window;
 
 pub const RETIRE_SECONDS: f64 = 0.02;
@@ -17,6 +22,12 @@ pub struct Shown {
     pub amplitude: f32,
     pub width: f32,
     pub partials: [u8; 3],
+}
+
+pub struct Framed {
+    pub answer: Answer,
+    pub frame: Frame,
+    pub engine: Engine,
 }
 
 fn seconds(since: u64, sample: u64, rate: f64) -> f64
@@ -209,5 +220,53 @@ fn accepts(elapsed_seconds: f32) -> bool
         elapsed_seconds >= 0.0
     } else {
         false
+    }
+}
+
+// The engine after a frame: the places that are still held, and the attempts renewed.
+fn renewed(engine: Engine, held: [Particle; 64], activity: f32) -> Engine
+    ensures { λ r. ⌜ r ≡ renewedOf engine held activity ⌝ }
+{
+    let mut out = engine;
+    out.particles = held;
+    out.activity = activity;
+    out.tally.attempts = 0;
+    out
+}
+
+fn taken(engine: Engine, bin_hz: f32, elapsed_seconds: f32) -> Framed
+    ensures { λ r. ⌜ r ≡ takenOf engine «bin_hz» «elapsed_seconds» ⌝ }
+{
+    let config = engine.config;
+    let prepared = engine.prepared;
+    let logs = prepared.partial_logs;
+    let sample = engine.clock.sample;
+    let rate = prepared.sample_rate;
+    let particles = engine.particles;
+    let held = sweep(particles, sample, rate);
+    let shown = show_all(held, sample, rate);
+    let windows = windows(shown, logs, bin_hz, births::max_hz(rate));
+    let activity = activity(engine.activity, config.enabled, elapsed_seconds);
+    let frame = Frame { windows, activity };
+    let engine = renewed(engine, held, activity);
+    Framed {
+        answer: Answer::Taken,
+        frame,
+        engine,
+    }
+}
+
+// Evaluated once at the spectral boundary; it renews the attempts.
+pub fn take_frame(engine: Engine, bin_hz: f32, elapsed_seconds: f32) -> Framed
+    ensures { λ r. ⌜ r ≡ framedOf engine «bin_hz» «elapsed_seconds» ⌝ }
+{
+    if accepts(elapsed_seconds) {
+        return taken(engine, bin_hz, elapsed_seconds);
+    }
+    let frame = windows::empty_frame();
+    Framed {
+        answer: Answer::Refused(Refusal::Seconds),
+        frame,
+        engine,
     }
 }

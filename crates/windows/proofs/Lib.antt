@@ -1,2 +1,3 @@
 pub mod Lean
 pub mod Tapered
+pub mod Topped

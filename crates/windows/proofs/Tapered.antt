@@ -20,13 +20,13 @@ use Rattle.floats.proofs.Rising.{nought, sub-falls}
 use Rattle.floats.proofs.Rules.{finite-number, le-trans}
 use Rattle.windows.specs.Opening.{nil, one, cubic, taperOf}
 
-abbrev i : Float
+abbrev pub i : Float
 i = fin false 1 (pos 0)
 
-abbrev two : Float
+abbrev pub two : Float
 two = fin false 1 (pos 1)
 
-abbrev three : Float
+abbrev pub three : Float
 three = fin false 3 (pos 0)
 
 i-fits : T (fits binary32 i)

@@ -1,5 +1,4 @@
 -- `accepts` meets its contract: two tests.
-use mathlib.Core.Path.{_∙_, sym}
 use Rattle.frame.specs.Frame.{accepted}
 use borrow.Author.Needs.{needs}
 use Rattle.frame.proofs.accepts.Statement.{statement}

@@ -1,7 +1,7 @@
 -- `seconds` meets its contract: the difference that wraps is the definition's.
-use Prim.Native.Nat.{ℕ, _+_, _%_, _^_, _<_, _≤_}
+use Prim.Native.Nat.{ℕ, _+_, _%_, _^_, _<_}
 use native.Mathlib.Omega.{arith}
-use mathlib.Core.Path.{_≡_, _∙_}
+use mathlib.Core.Path.{_≡_}
 use Rattle.frame.specs.Frame.{elapsedOf, secondsOf}
 use borrow.Author.Needs.{needs}
 use Rattle.frame.proofs.seconds.Statement.{statement}

@@ -2,7 +2,7 @@
 use Prim.Native.Nat.{_-_}
 use Rattle.pool.specs.Pool.{freeParticle}
 use Rattle.frame.specs.Frame.{shownOf}
-use Rattle.frame.proofs.Listed.{Copied, copied-none, copied-more, copied-all}
+use Rattle.lists.specs.Copied.{Copied, copied-none, copied-more, copied-all}
 use borrow.Author.Needs.{needs}
 use Rattle.frame.proofs.show_all.Statement.{statement}
 use Rattle.frame.proofs.show_all.Tie as tie

@@ -1,11 +1,11 @@
 -- Bounds by multiples of 2^-24 in f32: what is at most k / 2^24, k at most 2^24, stays so when it is rounded, and what is at most 1 + 2^-24 is rounded to 1 at most.
-use Prim.Native.Nat.{ℕ, _+_, _*_, _/_, _^_, _≤_, _<_}
+use Prim.Native.Nat.{ℕ, _+_, _*_, _^_, _≤_, _<_}
 use native.Mathlib.Nat.{le-trans, le-of-eq, mul-one, mul-assoc, mul-right-comm, mul-le-mul-left, mul-le-mul-right, mul-lt-mul-of-pos-right, lt-of-lt-of-le, le-of-mul-le-mul-right, eq-or-lt-of-le}
 use native.Mathlib.Omega.{arith}
 use mathlib.Core.Path.{_≡_, refl, sym, ap, _∙_, subst}
 use mathlib.Core.Logic.{inl, inr}
-use mathlib.Core.Bool.{Bool, true, false, true≢false}
-use lib.IntN.{ℤ, pos}
+use mathlib.Core.Bool.{true, false, true≢false}
+use lib.IntN.{pos}
 use lib.Dec.{T}
 use lib.Pow.{pow-pos, pow-add, pow-mono}
 use lib.Ieee.{Float, nan, inf, fin, binary32, up, down, round, lt, le, eq}

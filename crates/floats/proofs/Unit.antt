@@ -1,9 +1,9 @@
 -- Floats from 0 to 1, either zero included: their products, what is left of 1, and what a sum of a part and a part of the rest is.
-use Prim.Native.Nat.{ℕ, zero, suc, _+_, _-_, _*_, _/_, _^_, _≤_, _<_}
-use native.Mathlib.Nat.{le-trans, le-of-eq, mul-one, one-mul, mul-comm, mul-assoc, mul-right-comm, mul-left-comm, add-mul, zero-mul, mul-pos, mul-le-mul-right, le-of-mul-le-mul-right, div-mul-le-self, div-lt-iff-lt-mul, le-of-lt, zero-lt-suc, le-refl}
+use Prim.Native.Nat.{ℕ, zero, _+_, _-_, _*_, _/_, _^_, _≤_, _<_}
+use native.Mathlib.Nat.{le-trans, le-of-eq, mul-one, one-mul, mul-comm, mul-assoc, mul-right-comm, add-mul, zero-mul, mul-pos, mul-le-mul-right, le-of-mul-le-mul-right, div-mul-le-self, div-lt-iff-lt-mul, le-of-lt, zero-lt-suc, le-refl}
 use native.Mathlib.Omega.{arith}
 use mathlib.Core.Path.{_≡_, refl, sym, ap, _∙_, subst}
-use mathlib.Core.Bool.{Bool, true, false, not, cond}
+use mathlib.Core.Bool.{Bool, true, false, not}
 use lib.IntN.{ℤ, pos}
 use lib.Dec.{T, ltb}
 use lib.Pow.{pow-pos}
@@ -14,17 +14,15 @@ use lib.Ieee.Scale.{finite, round-same}
 use lib.Ieee.Order.{round-mono}
 use borrow.Author.Tests.{le-ltb}
 use Rattle.lists.specs.Pick.{by-case}
 use Rattle.floats.proofs.Bounds.{mul-mag, sub-mag}
 use Rattle.floats.proofs.Gap.{one-number}
-use Rattle.floats.proofs.Keys.{key, over}
 use Rattle.floats.proofs.Mag.{Mag, le-upto, mag-finite, mag-le}
-use Rattle.floats.proofs.Mono.{plus, minus, signedKey, signed-key-rises, add-key}
 use Rattle.floats.proofs.Numbers.{mul-number}
 use Rattle.floats.proofs.Products.{product-from-zero, product-to-zero, mul-rises-right}
 use Rattle.floats.proofs.Rising.{le-refl as float-refl, nought, add-rises, add-rises-right, sub-falls, mul-rises, neg-falls}
 use Rattle.floats.proofs.Rules.{between-finite, finite-number, neg-finite, add-number, key→le, le-trans as float-trans}
 use Rattle.floats.proofs.Values.{own-round, neg-round}
-use Rattle.frame.proofs.Grid.{AtMost, to-one, multiple-24, round-at-most}
+use Rattle.floats.proofs.Grid.{AtMost, to-one, multiple-24, round-at-most}
 
 abbrev pub i : Float
 i = fin false 1 (pos 0)
@@ -44,11 +42,11 @@ module _ {x : Float} (u : Unit x) where
   pub unit-mag : Mag x 1
   unit-mag = le-upto x i 1 (u .least) (u .most) (omega arith)
 
-i-fits : T (fits binary32 i)
+pub i-fits : T (fits binary32 i)
 unfolding fits
 i-fits = tt
 
-nought-fits : T (fits binary32 nought)
+pub nought-fits : T (fits binary32 nought)
 unfolding fits
 nought-fits = tt
 
@@ -72,7 +70,7 @@ nothing-less-nothing : sub binary32 nought nought ≡ nought
 unfolding sub add neg Ieee.sum round Ieee.units Ieee.odd Ieee.size Ieee.span Ieee.climb
 nothing-less-nothing = refl
 
-one-and-nothing : add binary32 i nought ≡ i
+pub one-and-nothing : add binary32 i nought ≡ i
 unfolding add Ieee.sum round Ieee.units Ieee.odd Ieee.size Ieee.span Ieee.climb
 one-and-nothing = refl
 

@@ -1,35 +1,36 @@
 -- The taper of a number is at most 1, rounding included. Below a half the bounds of its factors say so. From a half on x is k / 2^24, its square is at most
 -- q / 2^24 with q the next whole number above k^2 / 2^24, and q / 2^24 times 3 - 2x is at most 1 + 2^-24, which rounds to 1.
 use Prim.Native.Nat.{ℕ, zero, suc, _+_, _-_, _*_, _/_, _^_, _≤_, _<_}
-use native.Mathlib.Nat.{le-trans, le-of-eq, mul-one, mul-comm, mul-assoc, mul-right-comm, mul-left-comm, mul-mul-mul-comm, add-mul, mul-add, zero-mul, mul-pos, mul-le-mul, mul-le-mul-left, mul-le-mul-right, le-of-mul-le-mul-right, lt-of-lt-of-le, lt-of-le-of-lt, lt-of-not-le, le-of-suc-le-suc, not-le-of-lt, zero-lt-suc}
+use native.Mathlib.Nat.{le-trans, le-of-eq, mul-one, mul-comm, mul-assoc, mul-right-comm, mul-mul-mul-comm, add-mul, mul-add, mul-pos, mul-le-mul, mul-le-mul-left, mul-le-mul-right, le-of-mul-le-mul-right, lt-of-le-of-lt, lt-of-not-le, le-of-suc-le-suc, not-le-of-lt, zero-lt-suc}
 use native.Mathlib.Omega.{arith}
 use mathlib.Core.Path.{_≡_, refl, sym, ap, _∙_, subst}
-use mathlib.Core.Bool.{Bool, true, false, not, cond, true≢false}
+use mathlib.Core.Bool.{true, false, not, true≢false}
 use lib.IntN.{ℤ, pos, negsuc}
-use lib.Dec.{T, ltb}
+use lib.Dec.{T}
 use lib.Pow.{pow-pos, pow-add, pow-mono}
 use lib.Ieee.{Float, nan, inf, fin, binary32, ofBits, up, down, round, add, sub, mul, neg, lt, le, eq, fits, isNan}
 use lib.Ieee as Ieee
 use lib.Ieee.Bits.{is-false}
 use lib.Ieee.Exact.{HasValue}
-use lib.Ieee.Fits.{down-pos, mul-fits, sub-fits}
+use lib.Ieee.Fits.{down-pos, mul-fits}
 use lib.Ieee.Order.{round-mono}
 use lib.Ieee.Scale.{finite}
 use borrow.Author.Tests.{le-ltb}
 use Rattle.lists.specs.Pick.{by-case}
 use Rattle.floats.specs.Choose.{clamp}
 use Rattle.floats.proofs.Bounds.{mul-mag, mul-upto, sub-mag}
-use Rattle.floats.proofs.Choosing.{clamp-fits, clamp-least, clamp-most}
+use Rattle.floats.proofs.Choosing.{clamp-fits, clamp-least}
 use Rattle.floats.proofs.Held.{clamp-mag}
-use Rattle.floats.proofs.Mag.{Mag, Upto, le-of, mag-finite, within-upto}
+use Rattle.floats.proofs.Mag.{Mag, Upto, le-of, mag-finite}
 use Rattle.floats.proofs.Numbers.{mul-number}
 use Rattle.floats.proofs.Products.{product-from-zero, mul-rises-right}
 use Rattle.floats.proofs.Rising.{nought, not-above, sub-falls, mul-rises}
 use Rattle.floats.proofs.Rules.{finite-number, le-trans as float-trans, lt→le, not-lt→le}
 use Rattle.floats.proofs.Spans.{lt-le}
-use Rattle.floats.proofs.Values.{Fine, fine}
-use Rattle.windows.specs.Opening.{nil, one, cubic, taperOf}
-use Rattle.frame.proofs.Grid.{AtMost, to-one, multiple-24, multiple-23, round-at-most}
+use Rattle.floats.proofs.Values.{fine}
+use Rattle.windows.specs.Opening.{cubic, taperOf}
+use Rattle.windows.proofs.Tapered.{i, two, three}
+use Rattle.floats.proofs.Grid.{AtMost, to-one, multiple-24, multiple-23, round-at-most}
 
 -- ---- in whole numbers: q times 3 - 2x
 module _ (k d : ℕ) (e : k + d ≡ 16777216) (h : d ≤ 8388608) where
@@ -67,17 +68,8 @@ module _ (k d : ℕ) (e : k + d ≡ 16777216) (h : d ≤ 8388608) where
       (le-trans (le-of-eq (mul-right-comm q (8388608 + d) 16777216)) (le-trans (mul-le-mul-right (8388608 + d) g) wide)) (pow-pos 24)
 
 -- ---- the constants
-abbrev i : Float
-i = fin false 1 (pos 0)
-
 abbrev half : Float
 half = fin false 1 (negsuc 0)
-
-abbrev two : Float
-two = fin false 1 (pos 1)
-
-abbrev three : Float
-three = fin false 3 (pos 0)
 
 abbrev quarter : Float
 quarter = fin false 1 (negsuc 1)
