@@ -3,3 +3,4 @@ pub mod Strengths
 pub mod Places
 pub mod Shapes
 pub mod Windowed
+pub mod Newborn

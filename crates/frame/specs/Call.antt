@@ -1,5 +1,4 @@
 -- The call `frame` on the engine, line by line as the Rust's, with 01's refusal. Definitions only.
-use Prim.Native.Nat.{ℕ}
 use mathlib.Core.List.{List, map}
 use lib.Ieee.{Float}
 use Rattle.lists.specs.Pick.{pick}
@@ -56,5 +55,8 @@ takenOf e binHz seconds =
     record { answer = Taken; frame = record { windows = windowsBy e binHz; activity = activity }; engine = renewedOf e (heldOf e) activity }
 
 -- refusal 7: the engine as it was, and an empty frame
+unfoldable pub refusedOf : Engine → Framed
+refusedOf e = record { answer = Refused Seconds; frame = emptyFrame; engine = e }
+
 unfoldable pub framedOf : Engine → Float → Float → Framed
-framedOf e binHz seconds = pick (accepted seconds) (takenOf e binHz seconds) (record { answer = Refused Seconds; frame = emptyFrame; engine = e })
+framedOf e binHz seconds = pick (accepted seconds) (takenOf e binHz seconds) (refusedOf e)

@@ -2,7 +2,7 @@
 ghost use mathlib.Core.Path.{_≡_};
 ghost use mathlib.Core.List.{map};
 ghost use Rattle.frame.specs.Frame.{secondsOf, retirementOf, dueOf, sweepOne, powerOf, envelopeOf, amplitudeOf, nothing, shownOf, radiusOf, windowOf, windowsOf, activityOf, accepted};
-ghost use Rattle.frame.specs.Call.{renewedOf, takenOf, framedOf};
+ghost use Rattle.frame.specs.Call.{renewedOf, takenOf, refusedOf, framedOf};
 ghost use Rattle.windows.specs.Opening.{none};
 use engine::Engine;
 use pool::Particle;
@@ -256,6 +256,17 @@ fn taken(engine: Engine, bin_hz: f32, elapsed_seconds: f32) -> Framed
     }
 }
 
+fn refused(engine: Engine) -> Framed
+    ensures { λ r. ⌜ r ≡ refusedOf engine ⌝ }
+{
+    let frame = windows::empty_frame();
+    Framed {
+        answer: Answer::Refused(Refusal::Seconds),
+        frame,
+        engine,
+    }
+}
+
 // Evaluated once at the spectral boundary; it renews the attempts.
 pub fn take_frame(engine: Engine, bin_hz: f32, elapsed_seconds: f32) -> Framed
     ensures { λ r. ⌜ r ≡ framedOf engine «bin_hz» «elapsed_seconds» ⌝ }
@@ -263,10 +274,5 @@ pub fn take_frame(engine: Engine, bin_hz: f32, elapsed_seconds: f32) -> Framed
     if accepts(elapsed_seconds) {
         return taken(engine, bin_hz, elapsed_seconds);
     }
-    let frame = windows::empty_frame();
-    Framed {
-        answer: Answer::Refused(Refusal::Seconds),
-        frame,
-        engine,
-    }
+    refused(engine)
 }

@@ -16,13 +16,13 @@ returns : tie.Need-returns
 unfolding framedOf
 returns c = took _ _ _ _ (sym (c .before .before .accepts .ensures) ∙ c .before .if1 .taken) (c .taken .ensures)
 
-empty-frame-requires : tie.Need-empty-frame-requires
-empty-frame-requires c κs = search needs
+refused-requires : tie.Need-refused-requires
+refused-requires c κs = search needs
 
 returns-2 : tie.Need-returns-2
 unfolding framedOf
-returns-2 c = skipped _ _ _ _ (sym (c .before .before .accepts .ensures) ∙ c .before .if1 .left) (rw (c .empty-frame .ensures))
+returns-2 c = skipped _ _ _ _ (sym (c .before .before .accepts .ensures) ∙ c .before .if1 .left) (c .refused .ensures)
 
 pub take-frame-spec : {M : Type 1} → statement M
 take-frame-spec =
-    tie.close (tie.spec accepts-requires taken-requires returns empty-frame-requires returns-2)
+    tie.close (tie.spec accepts-requires taken-requires returns refused-requires returns-2)
