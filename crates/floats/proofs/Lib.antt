@@ -40,3 +40,4 @@ pub mod Ends
 pub mod Wholes
 pub mod Gap
 pub mod Units
+pub mod Unit
