@@ -1,0 +1,102 @@
+// Reads one field of an event script, at the start of the slice that it is handed.
+ghost use mathlib.Core.Path.{_≡_};
+ghost use Prim.Native.Nat.{_≤_};
+ghost use lib.ListN.{length};
+ghost use Rattle.script.specs.Field.{bodyOf, readOf};
+use refusals::Refusal;
+use settings::Config;
+
+mod bytes;
+mod values;
+
+pub enum Field {
+    Rate(f32),
+    Configure(Config),
+    // Slot, frequency, strength, eligible.
+    Source(u16, f32, f32, bool),
+    Retire(u16),
+    Release(u16),
+    Trigger(u16),
+    Seek(f64),
+    Advance(u32),
+    // The width of a bin in hertz, the seconds since the frame before.
+    Frame(f32, f32),
+    NoteInput(bool),
+    Reset,
+    Reserve,
+    ReservedTrigger(u16, u64),
+}
+
+// What a tag stands for.
+pub enum Kind {
+    Unknown,
+    Rate,
+    Configure,
+    Source,
+    Retire,
+    Release,
+    Trigger,
+    Seek,
+    Advance,
+    Frame,
+    NoteInput,
+    Reset,
+    Reserve,
+    ReservedTrigger,
+}
+
+pub enum Read {
+    // The field, and how many bytes it takes.
+    Field(Field, usize),
+    Bad(Refusal),
+    End,
+}
+
+// From the header on, where the tag stands for a field: its length, its value cut, its value.
+fn body_of(kind: Kind, s: &[u8]) -> Read
+    requires { ⌜ 3 ≤ length (now s) ⌝ }
+    ensures { λ r. ⌜ r ≡ bodyOf kind (now (s .entry)) ⌝ }
+{
+    let n = values::length_of(kind);
+    let said = bytes::be16_at(s, 1) as usize;
+    if said != n {
+        return Read::Bad(Refusal::Cut);
+    }
+    if s.len() - 3 < n {
+        return Read::Bad(Refusal::Cut);
+    }
+    let v = &s[3..];
+    if values::is_lawful(kind, v) {
+        Read::Field(values::field_of(kind, v), 3 + n)
+    } else {
+        Read::Bad(Refusal::Value)
+    }
+}
+
+// The field at the start of `script`, which is a script's first one or a later one.
+pub fn read_field(script: &[u8], first: bool) -> Read
+    ensures { λ r. ⌜ r ≡ readOf (now (script .entry)) first ⌝ }
+{
+    if script.len() == 0 {
+        return if first {
+            Read::Bad(Refusal::Place)
+        } else {
+            Read::End
+        };
+    }
+    if script.len() < 3 {
+        return Read::Bad(Refusal::Cut);
+    }
+    let tag = script[0];
+    let rate = tag == 1;
+    if rate != first {
+        return Read::Bad(Refusal::Place);
+    }
+    if tag == 0 {
+        return Read::Bad(Refusal::Tag);
+    }
+    if 13 < tag {
+        return Read::Bad(Refusal::Tag);
+    }
+    body_of(values::kind_of(tag), script)
+}
