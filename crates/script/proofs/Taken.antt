@@ -1,4 +1,4 @@
--- A field that was read took at least three bytes, and no more than there are. Assumes nothing.
+-- A field that was read took at least three bytes, and no more than there are.
 use Prim.Native.Nat.{ℕ, _+_, _-_, _≤_}
 use mathlib.Core.Path.{_≡_, refl}
 use mathlib.Core.Bool.{Bool, true, false, _||_, Bool·beq}
