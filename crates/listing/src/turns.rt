@@ -1,0 +1,119 @@
+// A script from its first field to its end: the listing, and the last accepted frame.
+ghost use mathlib.Core.Path.{_≡_};
+ghost use Prim.Native.Nat.{_<_};
+ghost use lib.ListN.{length};
+ghost use Rattle.text.specs.Put.{Put};
+ghost use Rattle.listing.specs.Turns.{repliedOf, turnOf, turnsOf};
+ghost use Rattle.listing.specs.Lines.{linesOf, textAll, printed};
+ghost use Rattle.listing.specs.Listed.{listedOf, leftIn};
+use crate::Line;
+use crate::Listed;
+use crate::Turn;
+use refusals::Refusal;
+use script::Read;
+use steps::Reply;
+use steps::Run;
+
+// A refusal in field 1 is the rate's, and stops the run.
+fn replied(n: u64, k: usize, run: Run, reply: Reply) -> Turn
+    ensures { λ r. ⌜ r ≡ repliedOf n k run reply ⌝ }
+{
+    match reply {
+        Reply::Quiet => Turn {
+            run,
+            line: Line::Nothing,
+            taken: k,
+        },
+        Reply::Refused(refusal) => {
+            if n == 1 {
+                Turn {
+                    run,
+                    line: Line::Bad(n, refusal),
+                    taken: 0,
+                }
+            } else {
+                Turn {
+                    run,
+                    line: Line::Refused(n, refusal),
+                    taken: k,
+                }
+            }
+        }
+        Reply::Framed(values) => Turn {
+            run,
+            line: Line::Frame(n, values),
+            taken: k,
+        },
+    }
+}
+
+// Field n stands at the start of s.
+fn one_turn(run: Run, n: u64, s: &[u8]) -> Turn
+    requires { ⌜ 0 < n ⌝ }
+    ensures { λ r. ⌜ r ≡ turnOf run n (now (s .entry)) ⌝ }
+{
+    let read = script::read_field(s, n == 1);
+    match read {
+        Read::Field(field, k) => {
+            let stepped = steps::step(run, field);
+            let after = stepped.run;
+            let reply = stepped.reply;
+            replied(n, k, after, reply)
+        }
+        Read::Bad(refusal) => Turn {
+            run,
+            line: Line::Bad(n, refusal),
+            taken: 0,
+        },
+        Read::End => Turn {
+            run,
+            line: Line::End(n - 1),
+            taken: 0,
+        },
+    }
+}
+
+// The lines of a script of lawful size.
+fn list_fields(script: &[u8], out: &mut [u8]) -> usize
+    ensures { λ r. ⌜ Put (now (out .entry)) (now (out .exit)) 0 r (textAll (linesOf (turnsOf (now (script .entry))))) ⌝ }
+{
+    let mut run = steps::fresh();
+    let mut n: u64 = 1;
+    let mut at: usize = 0;
+    let mut w: usize = 0;
+    loop {
+        let turn = one_turn(run, n, &script[at..]);
+        let line = turn.line;
+        w = crate::lines::put_line(out, w, line);
+        let k = turn.taken;
+        if k == 0 {
+            return w;
+        }
+        let next = turn.run;
+        run = next;
+        at = at + k;
+        n = n + 1;
+    }
+}
+
+fn listing(script: &[u8], out: &mut [u8]) -> usize
+    ensures { λ r. ⌜ Put (now (out .entry)) (now (out .exit)) 0 r (printed (now (script .entry))) ⌝ }
+{
+    if script.len() <= 60000 {
+        list_fields(script, out)
+    } else {
+        crate::lines::put_line(out, 0, Line::Bad(0, Refusal::Script))
+    }
+}
+
+// What the script prints, at the start of `out`, and the count of its bytes. `out` has room for the
+// longest listing, or is left as it is.
+pub fn list_script(script: &[u8], out: &mut [u8]) -> Listed
+    ensures { λ r. ⌜ (r ≡ listedOf (length (now (out .entry))) (now (script .entry))) × (now (out .exit) ≡ leftIn (now (out .entry)) (now (script .entry))) ⌝ }
+{
+    if out.len() < 4080204 {
+        return Listed::NoRoom;
+    }
+    let n = listing(script, out);
+    Listed::Count(n)
+}
