@@ -1,3 +1,4 @@
 pub mod Turns
 pub mod Lines
 pub mod Listed
+pub mod Ended

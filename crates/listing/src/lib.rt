@@ -1,13 +1,16 @@
 // Runs a script: its fields go to an engine one after the other, and what they print goes into a lent
 // buffer.
+use refusals::Answer;
 use refusals::Refusal;
 use steps::Run;
 use steps::Values;
+use windows::Frame;
 
 mod lines;
 mod turns;
 
 pub use turns::list_script;
+pub use turns::run_script;
 
 // The number of the field, and what its line says; the last line has the count of fields.
 pub enum Line {
@@ -28,4 +31,10 @@ pub struct Turn {
 pub enum Listed {
     Count(usize),
     NoRoom,
+}
+
+// What a whole script comes to: the refusal that it went bad with, if any, and its last accepted frame.
+pub struct Ended {
+    pub answer: Answer,
+    pub frame: Frame,
 }

@@ -6,9 +6,12 @@ ghost use Rattle.text.specs.Put.{Put};
 ghost use Rattle.listing.specs.Turns.{repliedOf, turnOf, turnsOf};
 ghost use Rattle.listing.specs.Lines.{linesOf, textAll, printed};
 ghost use Rattle.listing.specs.Listed.{listedOf, leftIn};
+ghost use Rattle.listing.specs.Ended.{lastTurn, endedOf, ranOf};
+use crate::Ended;
 use crate::Line;
 use crate::Listed;
 use crate::Turn;
+use refusals::Answer;
 use refusals::Refusal;
 use script::Read;
 use steps::Reply;
@@ -116,4 +119,68 @@ pub fn list_script(script: &[u8], out: &mut [u8]) -> Listed
     }
     let n = listing(script, out);
     Listed::Count(n)
+}
+
+// The turn that ends the run.
+fn last_turn(script: &[u8]) -> Turn
+    ensures { λ r. ⌜ r ≡ lastTurn (now (script .entry)) ⌝ }
+{
+    let mut run = steps::fresh();
+    let mut n: u64 = 1;
+    let mut at: usize = 0;
+    loop {
+        let turn = one_turn(run, n, &script[at..]);
+        let k = turn.taken;
+        if k == 0 {
+            return turn;
+        }
+        let next = turn.run;
+        run = next;
+        at = at + k;
+        n = n + 1;
+    }
+}
+
+fn ended(turn: Turn) -> Ended
+    ensures { λ r. ⌜ r ≡ endedOf turn ⌝ }
+{
+    let line = turn.line;
+    let run = turn.run;
+    let frame = run.frame;
+    match line {
+        Line::Bad(_, refusal) => Ended {
+            answer: Answer::Refused(refusal),
+            frame,
+        },
+        Line::Nothing => Ended {
+            answer: Answer::Taken,
+            frame,
+        },
+        Line::Frame(_, _) => Ended {
+            answer: Answer::Taken,
+            frame,
+        },
+        Line::Refused(_, _) => Ended {
+            answer: Answer::Taken,
+            frame,
+        },
+        Line::End(_) => Ended {
+            answer: Answer::Taken,
+            frame,
+        },
+    }
+}
+
+// Whether the script goes bad, and the last frame that was accepted.
+pub fn run_script(script: &[u8]) -> Ended
+    ensures { λ r. ⌜ r ≡ ranOf (now (script .entry)) ⌝ }
+{
+    if script.len() <= 60000 {
+        ended(last_turn(script))
+    } else {
+        Ended {
+            answer: Answer::Refused(Refusal::Script),
+            frame: windows::empty_frame(),
+        }
+    }
 }
