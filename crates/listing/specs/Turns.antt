@@ -11,26 +11,28 @@ use Rattle.script.specs.Field.{readOf}
 use Rattle.steps.specs.declared.Run.{Run}
 use Rattle.steps.specs.declared.Reply.{Reply}
 use Rattle.steps.specs.declared.Reply.the-variants as R
+use Rattle.listing.specs.declared.Line.{Line}
 use Rattle.listing.specs.declared.Line.the-variants as L
 use Rattle.listing.specs.declared.Turn.{Turn}
 use Rattle.steps.specs.Steps.{fresh, stepOf}
 
+-- the run after a turn, its line, and the bytes that it took
+abbrev pub toldOf : Run → Line → ℕ → Turn
+toldOf run line k = record { run = run; line = line; taken = k }
+
 -- a refusal in field 1, the rate's, is bad and stops the run; a later one goes on
 abbrev pub refusalOf : Bool → Run → ℕ → ℕ → Refusal → Turn
-refusalOf first run n k r =
-    cond first
-    (record { run = run; line = L.Bad n r; taken = 0 })
-    (record { run = run; line = L.Refused n r; taken = k })
+refusalOf first run n k r = cond first (toldOf run (L.Bad n r) 0) (toldOf run (L.Refused n r) k)
 
 abbrev pub repliedOf : ℕ → ℕ → Run → Reply → Turn
-repliedOf n k run R.Quiet = record { run = run; line = L.Nothing; taken = k }
+repliedOf n k run R.Quiet = toldOf run L.Nothing k
 repliedOf n k run (R.Refused r) = refusalOf (eqb n 1) run n k r
-repliedOf n k run (R.Framed v) = record { run = run; line = L.Frame n v; taken = k }
+repliedOf n k run (R.Framed v) = toldOf run (L.Frame n v) k
 
 abbrev pub afterOf : Run → ℕ → Read → Turn
 afterOf run n (S.Field f k) = repliedOf n k (stepOf run f .run) (stepOf run f .reply)
-afterOf run n (S.Bad r) = record { run = run; line = L.Bad n r; taken = 0 }
-afterOf run n S.End = record { run = run; line = L.End (n - 1); taken = 0 }
+afterOf run n (S.Bad r) = toldOf run (L.Bad n r) 0
+afterOf run n S.End = toldOf run (L.End (n - 1)) 0
 
 -- field n of the script stands at the start of s
 unfoldable pub turnOf : Run → ℕ → List ℕ → Turn

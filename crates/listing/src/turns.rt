@@ -3,7 +3,7 @@ ghost use mathlib.Core.Path.{_≡_};
 ghost use Prim.Native.Nat.{_<_};
 ghost use lib.ListN.{length};
 ghost use Rattle.text.specs.Put.{Put};
-ghost use Rattle.listing.specs.Turns.{repliedOf, turnOf, turnsOf};
+ghost use Rattle.listing.specs.Turns.{toldOf, repliedOf, turnOf, turnsOf};
 ghost use Rattle.listing.specs.Lines.{linesOf, textAll, printed};
 ghost use Rattle.listing.specs.Listed.{listedOf, leftIn};
 ghost use Rattle.listing.specs.Ended.{lastTurn, endedOf, ranOf};
@@ -17,36 +17,26 @@ use script::Read;
 use steps::Reply;
 use steps::Run;
 
+fn told(run: Run, line: Line, taken: usize) -> Turn
+    ensures { λ r. ⌜ r ≡ toldOf run line taken ⌝ }
+{
+    Turn { run, line, taken }
+}
+
 // A refusal in field 1 is the rate's, and stops the run.
 fn replied(n: u64, k: usize, run: Run, reply: Reply) -> Turn
     ensures { λ r. ⌜ r ≡ repliedOf n k run reply ⌝ }
 {
     match reply {
-        Reply::Quiet => Turn {
-            run,
-            line: Line::Nothing,
-            taken: k,
-        },
+        Reply::Quiet => told(run, Line::Nothing, k),
         Reply::Refused(refusal) => {
             if n == 1 {
-                Turn {
-                    run,
-                    line: Line::Bad(n, refusal),
-                    taken: 0,
-                }
+                told(run, Line::Bad(n, refusal), 0)
             } else {
-                Turn {
-                    run,
-                    line: Line::Refused(n, refusal),
-                    taken: k,
-                }
+                told(run, Line::Refused(n, refusal), k)
             }
         }
-        Reply::Framed(values) => Turn {
-            run,
-            line: Line::Frame(n, values),
-            taken: k,
-        },
+        Reply::Framed(values) => told(run, Line::Frame(n, values), k),
     }
 }
 
@@ -63,16 +53,8 @@ fn one_turn(run: Run, n: u64, s: &[u8]) -> Turn
             let reply = stepped.reply;
             replied(n, k, after, reply)
         }
-        Read::Bad(refusal) => Turn {
-            run,
-            line: Line::Bad(n, refusal),
-            taken: 0,
-        },
-        Read::End => Turn {
-            run,
-            line: Line::End(n - 1),
-            taken: 0,
-        },
+        Read::Bad(refusal) => told(run, Line::Bad(n, refusal), 0),
+        Read::End => told(run, Line::End(n - 1), 0),
     }
 }
 

@@ -1,7 +1,7 @@
 -- A field that was read took at least three bytes, and no more than there are.
 use Prim.Native.Nat.{ℕ, _+_, _-_, _≤_}
 use mathlib.Core.Path.{_≡_, refl}
-use mathlib.Core.Bool.{Bool, true, false, _||_, Bool·beq}
+use mathlib.Core.Bool.{Bool, true, false}
 use mathlib.Core.List.{List}
 use native.Mathlib.Omega.{arith}
 use lib.ListN.{length, getD, drop}
@@ -9,7 +9,7 @@ use lib.Dec.{eqb, ltb, leb}
 use borrow.Author.Tests.{ltb-false, leb-true}
 use Rattle.script.specs.Bytes.{be16}
 use Rattle.script.specs.Table.{kindOf, lawful, lengthOf}
-use Rattle.script.specs.Field.{bodyOf, readOf}
+use Rattle.script.specs.Field.{bodyOf, misplaced, unknown, readOf}
 use Rattle.refusals.specs.declared.Refusal.{Refusal}
 use Rattle.script.specs.declared.Kind.{Kind}
 use Rattle.script.specs.declared.Field.{Field}
@@ -43,8 +43,8 @@ taken s first =
     (λ y. by-test first (λ b. rw (y, b) bad) (λ b. rw (y, b) end))
     (λ y. by-test (ltb (length s) 3)
     (λ z. rw (y, z) bad)
-    (λ z. by-test (Bool·beq (eqb (getD s 0 0) 1) first)
-    (λ p. by-test (eqb (getD s 0 0) 0 || ltb 13 (getD s 0 0))
+    (λ z. by-test (misplaced (getD s 0 0) first)
+    (λ p. rw (y, z, p) bad)
+    (λ p. by-test (unknown (getD s 0 0))
     (λ t. rw (y, z, p, t) bad)
-    (λ t. rw (y, z, p, t) (body (kindOf (getD s 0 0)) s (ltb-false (length s) 3 z))))
-    (λ p. rw (y, z, p) bad)))
+    (λ t. rw (y, z, p, t) (body (kindOf (getD s 0 0)) s (ltb-false (length s) 3 z))))))

@@ -1,6 +1,6 @@
 -- What reading one field finds: 01's checks in their order. Definitions only.
 use Prim.Native.Nat.{ℕ, _+_, _-_}
-use mathlib.Core.Bool.{Bool, cond, _||_, Bool·beq}
+use mathlib.Core.Bool.{Bool, cond, not, _||_}
 use mathlib.Core.List.{List}
 use lib.ListN.{length, getD, drop}
 use lib.Dec.{eqb, ltb, leb}
@@ -20,13 +20,20 @@ bodyOf k s =
     (R.Bad Cut))
     (R.Bad Cut)
 
+-- the first field is the rate, and no later one is
+unfoldable pub misplaced : ℕ → Bool → Bool
+misplaced tag first = cond first (not (eqb tag 1)) (eqb tag 1)
+
+-- tags are 1 to 13
+unfoldable pub unknown : ℕ → Bool
+unknown tag = eqb tag 0 || ltb 13 tag
+
 -- header cut 9, place of rate 11, tag 8, then the body; an empty script has no rate, 11
 unfoldable pub readOf : List ℕ → Bool → Read
 readOf s first =
-    cond (eqb (length s) 0)
-    (cond first (R.Bad Place) R.End)
-    (cond (ltb (length s) 3)
-    (R.Bad Cut)
-    (cond (Bool·beq (eqb (getD s 0 0) 1) first)
-    (cond (eqb (getD s 0 0) 0 || ltb 13 (getD s 0 0)) (R.Bad Tag) (bodyOf (kindOf (getD s 0 0)) s))
-    (R.Bad Place)))
+    let tag = getD s 0 0 in
+    cond (eqb (length s) 0) (cond first (R.Bad Place) R.End)
+    (cond (ltb (length s) 3) (R.Bad Cut)
+    (cond (misplaced tag first) (R.Bad Place)
+    (cond (unknown tag) (R.Bad Tag)
+    (bodyOf (kindOf tag) s))))

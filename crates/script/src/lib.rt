@@ -2,7 +2,7 @@
 ghost use mathlib.Core.Path.{_≡_};
 ghost use Prim.Native.Nat.{_≤_};
 ghost use lib.ListN.{length};
-ghost use Rattle.script.specs.Field.{bodyOf, readOf};
+ghost use Rattle.script.specs.Field.{bodyOf, misplaced, unknown, readOf};
 use refusals::Refusal;
 use settings::Config;
 
@@ -73,29 +73,37 @@ fn body_of(kind: Kind, s: &[u8]) -> Read
     }
 }
 
+// The first field is the rate, and no later one is.
+fn is_misplaced(tag: u8, first: bool) -> bool
+    ensures { λ r. ⌜ r ≡ misplaced tag first ⌝ }
+{
+    if first { tag != 1 } else { tag == 1 }
+}
+
+fn is_unknown(tag: u8) -> bool
+    ensures { λ r. ⌜ r ≡ unknown tag ⌝ }
+{
+    if tag == 0 { true } else { 13 < tag }
+}
+
 // The field at the start of `script`, which is a script's first one or a later one.
 pub fn read_field(script: &[u8], first: bool) -> Read
     ensures { λ r. ⌜ r ≡ readOf (now (script .entry)) first ⌝ }
 {
+    let tag = bytes::byte(script, 0);
+    let cut = script.len() < 3;
+    let misplaced = is_misplaced(tag, first);
+    let unknown = is_unknown(tag);
     if script.len() == 0 {
-        return if first {
-            Read::Bad(Refusal::Place)
-        } else {
-            Read::End
-        };
+        return if first { Read::Bad(Refusal::Place) } else { Read::End };
     }
-    if script.len() < 3 {
+    if cut {
         return Read::Bad(Refusal::Cut);
     }
-    let tag = script[0];
-    let rate = tag == 1;
-    if rate != first {
+    if misplaced {
         return Read::Bad(Refusal::Place);
     }
-    if tag == 0 {
-        return Read::Bad(Refusal::Tag);
-    }
-    if 13 < tag {
+    if unknown {
         return Read::Bad(Refusal::Tag);
     }
     body_of(values::kind_of(tag), script)

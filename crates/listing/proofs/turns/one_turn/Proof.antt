@@ -18,11 +18,17 @@ replied-requires c κs = search needs
 enum-known-read-2 : tie.Need-enum-known-read-2
 enum-known-read-2 c = search needs
 
+told-requires : tie.Need-told-requires
+told-requires c κs = search needs
+
 enum-told : tie.Need-enum-told
 enum-told c = search needs
 
 sub-t14 : tie.Need-sub-t14
 sub-t14 c = search needs
+
+told-requires-2 : tie.Need-told-requires-2
+told-requires-2 c κs = search needs
 
 returns : tie.Need-returns
 unfolding turnOf
@@ -30,11 +36,11 @@ returns c = rw (← c .before .before .before .before .before .before .read-fiel
 
 returns-2 : tie.Need-returns-2
 unfolding turnOf
-returns-2 c = rw (← c .before .before .before .read-field .ensures, c .before .read2 .given .1)
+returns-2 c = rw (← c .before .before .before .before .read-field .ensures, c .before .before .read2 .given .1, c .told .ensures)
 
 returns-3 : tie.Need-returns-3
 unfolding turnOf
-returns-3 c = rw (← c .before .before .read-field .ensures, c .enum-told .given .1)
+returns-3 c = rw (← c .before .before .before .read-field .ensures, c .before .enum-told .given .1, c .told2 .ensures)
 
 pub one-turn-spec : {M : Type 1} → statement M
 one-turn-spec =
@@ -45,8 +51,10 @@ one-turn-spec =
     step-requires
     replied-requires
     enum-known-read-2
+    told-requires
     enum-told
     sub-t14
+    told-requires-2
     returns
     returns-2
     returns-3)
