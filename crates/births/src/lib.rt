@@ -128,7 +128,15 @@ fn ratio(hz: f32, octave: f32, max_hz: f32) -> f32
     max_hz / elementary::exp2(elementary::log2(hz) + octave)
 }
 
-fn partials(shape: Shape, index: u64, weights: [f32; 24], limit: usize, hz: f32, octave: f32, max_hz: f32) -> [u8; 3]
+fn partials(
+    shape: Shape,
+    index: u64,
+    weights: [f32; 24],
+    limit: usize,
+    hz: f32,
+    octave: f32,
+    max_hz: f32,
+) -> [u8; 3]
     ensures { λ r. ⌜ r ≡ partialsBy shape index weights limit hz octave «max_hz» ⌝ }
 {
     match shape {
@@ -146,7 +154,14 @@ fn decay_power(shape: Shape) -> u32
     }
 }
 
-pub fn newborn(index: u64, voice: Voice, config: Config, sample_rate: f64, sample: u64, weights: [f32; 24]) -> Particle
+pub fn newborn(
+    index: u64,
+    voice: Voice,
+    config: Config,
+    sample_rate: f64,
+    sample: u64,
+    weights: [f32; 24],
+) -> Particle
     ensures { λ r. ⌜ r ≡ newbornOf index voice config «sample_rate» sample weights ⌝ }
 {
     let shape = config.shape;
@@ -157,7 +172,15 @@ pub fn newborn(index: u64, voice: Voice, config: Config, sample_rate: f64, sampl
     let register = register(shape, index, hz, max_hz, direction);
     let width = width(shape, config.size_octaves, index);
     let strength = strength(shape, voice.strength, register.strength, index);
-    let partials = partials(shape, index, weights, config.partials, hz, register.octave, max_hz);
+    let partials = partials(
+        shape,
+        index,
+        weights,
+        config.partials,
+        hz,
+        register.octave,
+        max_hz,
+    );
     Particle {
         active: true,
         source: voice.slot,

@@ -1,43 +1,56 @@
 // One birth: its source, the attempt, the place.
 ghost use mathlib.Core.Path.{_≡_};
-use births::Voice;
+ghost use Rattle.engine.specs.Birth.{withLast, droppedOne, triedOne, wordOf, hashOf, bornOne, voiceFor, newbornFor, admittedOf, isBarred, attemptedOf, chosenFor, bornOf};
 use crate::Engine;
 use crate::Next;
 use crate::Tally;
+use births::Voice;
 use pool::Particle;
 
-fn with_last(next: Next, slot: usize) -> Next {
+fn with_last(next: Next, slot: usize) -> Next
+    ensures { λ r. ⌜ r ≡ withLast next slot ⌝ }
+{
     let mut out = next;
     out.last_source = slot;
     out
 }
 
-fn drop_one(tally: Tally) -> Tally {
+fn drop_one(tally: Tally) -> Tally
+    ensures { λ r. ⌜ r ≡ droppedOne tally ⌝ }
+{
     let dropped = std::num::wrapping_add_u64(tally.dropped, 1);
     let mut out = tally;
     out.dropped = dropped;
     out
 }
 
-fn try_one(tally: Tally) -> Tally {
+fn try_one(tally: Tally) -> Tally
+    ensures { λ r. ⌜ r ≡ triedOne tally ⌝ }
+{
     let attempts = std::num::wrapping_add_u64(tally.attempts, 1);
     let mut out = tally;
     out.attempts = attempts;
     out
 }
 
-fn word(partials: [u8; 3]) -> u64 {
+fn word(partials: [u8; 3]) -> u64
+    ensures { λ r. ⌜ r ≡ wordOf partials ⌝ }
+{
     partials[0] as u64 + partials[1] as u64 * 256 + partials[2] as u64 * 65536
 }
 
-fn hash(before: u64, index: u64, sample: u64, p: Particle) -> u64 {
+fn hash(before: u64, index: u64, sample: u64, p: Particle) -> u64
+    ensures { λ r. ⌜ r ≡ hashOf before index sample p ⌝ }
+{
     let partials = p.partials;
     let turned = floats::rotate_left(sample, 19);
     let bits = floats::bits32(p.frequency_hz) as u64;
     draws::mix(before ^ index ^ turned ^ bits ^ word(partials))
 }
 
-fn bear_one(tally: Tally, index: u64, sample: u64, p: Particle) -> Tally {
+fn bear_one(tally: Tally, index: u64, sample: u64, p: Particle) -> Tally
+    ensures { λ r. ⌜ r ≡ bornOne tally index sample p ⌝ }
+{
     let births = std::num::wrapping_add_u64(tally.births, 1);
     let decision_hash = hash(tally.decision_hash, index, sample, p);
     let mut out = tally;
@@ -46,25 +59,43 @@ fn bear_one(tally: Tally, index: u64, sample: u64, p: Particle) -> Tally {
     out
 }
 
-fn voice(engine: Engine, index: u64, slot: usize) -> Voice {
+fn voice(engine: Engine, index: u64, slot: usize) -> Voice
+    ensures { λ r. ⌜ r ≡ voiceFor engine index slot ⌝ }
+{
     if slot < 256 {
         let source = engine.sources[slot];
         return births::source_voice(slot, source);
     }
     let config = engine.config;
     let shape = config.shape;
-    births::free_voice(shape, index, engine.clock.phase, engine.prepared.sample_rate)
+    births::free_voice(
+        shape,
+        index,
+        engine.clock.phase,
+        engine.prepared.sample_rate,
+    )
 }
 
-fn newborn(engine: Engine, index: u64, slot: usize) -> Particle {
+fn newborn(engine: Engine, index: u64, slot: usize) -> Particle
+    ensures { λ r. ⌜ r ≡ newbornFor engine index slot ⌝ }
+{
     let voice = voice(engine, index, slot);
     let config = engine.config;
     let weights = engine.partial_weights;
-    births::newborn(index, voice, config, engine.prepared.sample_rate, engine.clock.sample, weights)
+    births::newborn(
+        index,
+        voice,
+        config,
+        engine.prepared.sample_rate,
+        engine.clock.sample,
+        weights,
+    )
 }
 
 // The lowest free place is taken; where there is none, the birth is dropped.
-fn admit(engine: Engine, index: u64, slot: usize) -> Engine {
+fn admit(engine: Engine, index: u64, slot: usize) -> Engine
+    ensures { λ r. ⌜ r ≡ admittedOf engine index slot ⌝ }
+{
     let tally = engine.tally;
     let particles = engine.particles;
     let place = pool::free_place(particles);
@@ -80,11 +111,19 @@ fn admit(engine: Engine, index: u64, slot: usize) -> Engine {
 }
 
 // No source was found while notes are held.
-fn barred(slot: usize, note_input_present: bool) -> bool {
-    if slot == 256 { note_input_present } else { false }
+fn barred(slot: usize, note_input_present: bool) -> bool
+    ensures { λ r. ⌜ r ≡ isBarred slot «note_input_present» ⌝ }
+{
+    if slot == 256 {
+        note_input_present
+    } else {
+        false
+    }
 }
 
-fn attempt(engine: Engine, index: u64, slot: usize) -> Engine {
+fn attempt(engine: Engine, index: u64, slot: usize) -> Engine
+    ensures { λ r. ⌜ r ≡ attemptedOf engine index slot ⌝ }
+{
     let tally = engine.tally;
     let mut out = engine;
     if tally.attempts == crate::MAX_BIRTH_ATTEMPTS {
@@ -99,17 +138,25 @@ fn attempt(engine: Engine, index: u64, slot: usize) -> Engine {
 }
 
 // A trigger's own slot, or one of the eligible sources by the draw.
-fn choose(engine: Engine, index: u64, own: usize) -> usize {
+fn choose(engine: Engine, index: u64, own: usize) -> usize
+    ensures { λ r. ⌜ r ≡ chosenFor engine index own ⌝ }
+{
     if own < 256 {
         return own;
     }
     let sources = engine.sources;
-    sources::choose(sources, engine.next.last_source, draws::random(index, draws::SOURCE))
+    sources::choose(
+        sources,
+        engine.next.last_source,
+        draws::random(index, draws::SOURCE),
+    )
 }
 
 // The choice is stored whatever follows: a birth that is turned away leaves the sequence of sources as
 // it would have been.
-pub fn birth(engine: Engine, index: u64, own: usize) -> Engine {
+pub fn birth(engine: Engine, index: u64, own: usize) -> Engine
+    ensures { λ r. ⌜ r ≡ bornOf engine index own ⌝ }
+{
     let slot = choose(engine, index, own);
     let next = engine.next;
     let mut out = engine;

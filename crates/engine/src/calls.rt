@@ -1,5 +1,9 @@
 // The calls that change settings, sources and the place in the film.
 ghost use mathlib.Core.Path.{_≡_};
+ghost use Prim.Native.Nat.{_<_};
+ghost use Rattle.sources.specs.Sources.{sameFlag};
+ghost use Rattle.engine.specs.State.{taken, refused, withConfig};
+ghost use Rattle.engine.specs.Calls.{isSprinkle, sameShape, retiredAll, aligned, reweighed, switched, offset, enters, preparedAll, restarted, configuredTo, configuredOf, notesOf, placedOf, setSourceOf, retireSourceOf, releaseSourceOf, soughtPhase, soughtOpportunity, soughtOf};
 use crate::Clock;
 use crate::Done;
 use crate::Engine;
@@ -11,35 +15,51 @@ use settings::Shape;
 use sources::Source;
 use timing::SprinkleStream;
 
-fn same_shape(a: Shape, b: Shape) -> bool {
+fn same_shape(a: Shape, b: Shape) -> bool
+    ensures { λ r. ⌜ r ≡ sameShape a b ⌝ }
+{
     match a {
         Shape::Sprinkle => is_sprinkle(b),
         Shape::Cloud => !is_sprinkle(b),
     }
 }
 
-pub fn is_sprinkle(shape: Shape) -> bool {
+fn same_flag(a: bool, b: bool) -> bool
+    ensures { λ r. ⌜ r ≡ sameFlag a b ⌝ }
+{
+    if a { b } else { !b }
+}
+
+pub fn is_sprinkle(shape: Shape) -> bool
+    ensures { λ r. ⌜ r ≡ isSprinkle shape ⌝ }
+{
     match shape {
         Shape::Sprinkle => true,
         Shape::Cloud => false,
     }
 }
 
-fn refuse(engine: Engine, refusal: Refusal) -> Done {
+fn refuse(engine: Engine, refusal: Refusal) -> Done
+    ensures { λ r. ⌜ r ≡ refused refusal engine ⌝ }
+{
     Done {
         answer: Answer::Refused(refusal),
         engine,
     }
 }
 
-fn take(engine: Engine) -> Done {
+fn take(engine: Engine) -> Done
+    ensures { λ r. ⌜ r ≡ taken engine ⌝ }
+{
     Done {
         answer: Answer::Taken,
         engine,
     }
 }
 
-fn retire_all(engine: Engine) -> Engine {
+fn retire_all(engine: Engine) -> Engine
+    ensures { λ r. ⌜ r ≡ retiredAll engine ⌝ }
+{
     let particles = engine.particles;
     let retired = pool::retire_all(particles, engine.clock.sample);
     let mut out = engine;
@@ -47,25 +67,29 @@ fn retire_all(engine: Engine) -> Engine {
     out
 }
 
-fn reweigh(engine: Engine, config: Config) -> Engine {
-    if config.partial_rolloff_db != engine.config.partial_rolloff_db {
-        let prepared = engine.prepared;
-        let logs = prepared.partial_logs;
-        let weights = crate::make::weights(logs, config.partial_rolloff_db);
-        let mut out = engine;
-        out.partial_weights = weights;
-        return out;
+fn reweigh(engine: Engine, config: Config) -> Engine
+    ensures { λ r. ⌜ r ≡ reweighed engine config ⌝ }
+{
+    if config.partial_rolloff_db == engine.config.partial_rolloff_db {
+        return engine;
     }
-    engine
+    let prepared = engine.prepared;
+    let logs = prepared.partial_logs;
+    let weights = crate::make::weights(logs, config.partial_rolloff_db);
+    let mut out = engine;
+    out.partial_weights = weights;
+    out
 }
 
 // Another shape, or on in place of off or the other way round, retires every particle.
-fn switch(engine: Engine, config: Config) -> Engine {
+fn switch(engine: Engine, config: Config) -> Engine
+    ensures { λ r. ⌜ r ≡ switched engine config ⌝ }
+{
     let old = engine.config;
     let before = old.shape;
     let after = config.shape;
     if same_shape(before, after) {
-        if old.enabled == config.enabled {
+        if same_flag(old.enabled, config.enabled) {
             return engine;
         }
     }
@@ -73,7 +97,9 @@ fn switch(engine: Engine, config: Config) -> Engine {
 }
 
 // Only before the first sample does the offset jump.
-fn offset(engine: Engine, phase: f32) -> Engine {
+fn offset(engine: Engine, phase: f32) -> Engine
+    ensures { λ r. ⌜ r ≡ offset engine phase ⌝ }
+{
     if engine.clock.sample == 0 {
         let to = floats::f32_to_f64(phase);
         let mut out = engine;
@@ -83,7 +109,9 @@ fn offset(engine: Engine, phase: f32) -> Engine {
     engine
 }
 
-fn enters_sprinkle(before: Config, after: Config) -> bool {
+fn enters_sprinkle(before: Config, after: Config) -> bool
+    ensures { λ r. ⌜ r ≡ enters before after ⌝ }
+{
     let from = before.shape;
     let to = after.shape;
     if is_sprinkle(to) {
@@ -97,17 +125,23 @@ fn enters_sprinkle(before: Config, after: Config) -> bool {
     }
 }
 
-fn prepare_streams(streams: [SprinkleStream; 3], sync: bool) -> [SprinkleStream; 3] {
-    let mut out = streams;
-    for lane in 0..3 {
-        let stream = out[lane];
-        out[lane] = timing::prepare(stream, lane, sync);
-    }
-    out
+fn prepare_streams(streams: [SprinkleStream; 3], sync: bool) -> [SprinkleStream; 3]
+    ensures { λ r. ⌜ r ≡ preparedAll streams sync ⌝ }
+{
+    let a = streams[0];
+    let b = streams[1];
+    let c = streams[2];
+    let first = timing::prepare(a, 0, sync);
+    let second = timing::prepare(b, 1, sync);
+    let third = timing::prepare(c, 2, sync);
+    [first, second, third]
 }
 
-fn align_streams(engine: Engine, sync: bool) -> Engine {
-    let streams = timing::align_streams(engine.clock.phase + engine.clock.phase_offset, sync);
+fn align_streams(engine: Engine) -> Engine
+    ensures { λ r. ⌜ r ≡ aligned engine ⌝ }
+{
+    let reference = engine.clock.phase + engine.clock.phase_offset;
+    let streams = timing::align_streams(reference, engine.config.sync);
     let mut out = engine;
     out.streams = streams;
     out
@@ -115,11 +149,14 @@ fn align_streams(engine: Engine, sync: bool) -> Engine {
 
 // Entering Sprinkle begins its streams anew where the clock stands; a change of sync alone puts the
 // same starts on the grid or off it.
-fn restart(engine: Engine, before: Config, after: Config) -> Engine {
+fn restart(engine: Engine, before: Config) -> Engine
+    ensures { λ r. ⌜ r ≡ restarted engine before ⌝ }
+{
+    let after = engine.config;
     if enters_sprinkle(before, after) {
-        return align_streams(engine, after.sync);
+        return align_streams(engine);
     }
-    if before.sync == after.sync {
+    if same_flag(before.sync, after.sync) {
         return engine;
     }
     let streams = engine.streams;
@@ -129,22 +166,28 @@ fn restart(engine: Engine, before: Config, after: Config) -> Engine {
     out
 }
 
-fn with_config(engine: Engine, config: Config) -> Engine {
+fn with_config(engine: Engine, config: Config) -> Engine
+    ensures { λ r. ⌜ r ≡ withConfig engine config ⌝ }
+{
     let mut out = engine;
     out.config = config;
     out
 }
 
-fn configured(engine: Engine, config: Config) -> Engine {
+fn configured(engine: Engine, config: Config) -> Engine
+    ensures { λ r. ⌜ r ≡ configuredTo engine config ⌝ }
+{
     let before = engine.config;
     let weighed = reweigh(engine, config);
     let switched = switch(weighed, config);
     let moved = offset(switched, config.phase);
     let set = with_config(moved, config);
-    restart(set, before, config)
+    restart(set, before)
 }
 
-pub fn configure(engine: Engine, config: Config) -> Done {
+pub fn configure(engine: Engine, config: Config) -> Done
+    ensures { λ r. ⌜ r ≡ configuredOf engine config ⌝ }
+{
     let checked = settings::checked(config);
     match checked {
         Answer::Taken => take(configured(engine, settings::mended(config))),
@@ -153,14 +196,15 @@ pub fn configure(engine: Engine, config: Config) -> Done {
 }
 
 // Presence counts muted and unmapped notes: they must not let free particles in.
-pub fn set_note_input_present(engine: Engine, present: bool) -> Engine {
+pub fn set_note_input_present(engine: Engine, present: bool) -> Engine
+    ensures { λ r. ⌜ r ≡ notesOf engine present ⌝ }
+{
     let mut out = engine;
     out.next.note_input_present = present;
     out
 }
 
-fn place_source(engine: Engine, slot: usize, source: Source) -> Engine
-{
+fn place_source(engine: Engine, slot: usize, source: Source) -> Engine {
     let mut out = engine;
     out.sources[slot] = source;
     if sources::pitched(source.frequency_hz) {
@@ -172,7 +216,9 @@ fn place_source(engine: Engine, slot: usize, source: Source) -> Engine
     out
 }
 
-pub fn set_source(engine: Engine, slot: usize, source: Source) -> Done {
+pub fn set_source(engine: Engine, slot: usize, source: Source) -> Done
+    ensures { λ r. ⌜ r ≡ setSourceOf engine slot source ⌝ }
+{
     if slot >= 256 {
         return refuse(engine, Refusal::Slot);
     }
@@ -184,7 +230,9 @@ pub fn set_source(engine: Engine, slot: usize, source: Source) -> Done {
 }
 
 // Clears the slot and retires those who follow it.
-pub fn retire_source(engine: Engine, slot: usize) -> Done {
+pub fn retire_source(engine: Engine, slot: usize) -> Done
+    ensures { λ r. ⌜ r ≡ retireSourceOf engine slot ⌝ }
+{
     if slot >= 256 {
         return refuse(engine, Refusal::Slot);
     }
@@ -198,7 +246,9 @@ pub fn retire_source(engine: Engine, slot: usize) -> Done {
 }
 
 // The source supplies no more births; its windows finish at their last pitch.
-pub fn release_source(engine: Engine, slot: usize) -> Done {
+pub fn release_source(engine: Engine, slot: usize) -> Done
+    ensures { λ r. ⌜ r ≡ releaseSourceOf engine slot ⌝ }
+{
     if slot >= 256 {
         return refuse(engine, Refusal::Slot);
     }
@@ -208,7 +258,9 @@ pub fn release_source(engine: Engine, slot: usize) -> Done {
     take(out)
 }
 
-fn sought_phase(cycles: f64) -> f64 {
+fn sought_phase(cycles: f64) -> f64
+    ensures { λ r. ⌜ r ≡ soughtPhase cycles ⌝ }
+{
     if floats::is_finite64(cycles) {
         return floats::rem_euclid64(cycles, 1000000000.0);
     }
@@ -216,7 +268,9 @@ fn sought_phase(cycles: f64) -> f64 {
 }
 
 // The first opportunity after the reference.
-fn sought_opportunity(phase: f64, reference: f64) -> u64 {
+fn sought_opportunity(phase: f64, reference: f64) -> u64
+    ensures { λ r. ⌜ r ≡ soughtOpportunity phase reference ⌝ }
+{
     let opportunity = floats::f64_to_u64(floats::floor64(phase));
     if timing::timing_reference(opportunity) <= reference {
         return std::num::wrapping_add_u64(opportunity, 1);
@@ -225,7 +279,9 @@ fn sought_opportunity(phase: f64, reference: f64) -> u64 {
 }
 
 // Starts anew at the destination; what was missed is never made up for.
-pub fn seek(engine: Engine, cycles: f64) -> Engine {
+pub fn seek(engine: Engine, cycles: f64) -> Engine
+    ensures { λ r. ⌜ r ≡ soughtOf engine cycles ⌝ }
+{
     let retired = retire_all(engine);
     let phase = sought_phase(cycles);
     let phase_offset = floats::f32_to_f64(engine.config.phase);
@@ -243,5 +299,5 @@ pub fn seek(engine: Engine, cycles: f64) -> Engine {
     let mut out = retired;
     out.clock = clock;
     out.next = next;
-    align_streams(out, engine.config.sync)
+    align_streams(out)
 }

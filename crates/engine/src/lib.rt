@@ -1,5 +1,6 @@
 // The engine: a value that goes into a call and comes back. Its state, and every call but `frame`.
 ghost use mathlib.Core.Path.{_≡_};
+ghost use Rattle.pool.specs.Pool.{activeCount};
 use pool::Particle;
 use refusals::Answer;
 use refusals::Refusal;
@@ -9,8 +10,8 @@ use timing::SprinkleStream;
 
 mod birth;
 mod calls;
-mod clock;
 mod make;
+mod time;
 mod triggers;
 
 pub use calls::configure;
@@ -19,9 +20,9 @@ pub use calls::retire_source;
 pub use calls::seek;
 pub use calls::set_note_input_present;
 pub use calls::set_source;
-pub use clock::advance;
 pub use make::new_engine;
 pub use make::reset;
+pub use time::advance;
 pub use triggers::reserve_trigger;
 pub use triggers::trigger;
 pub use triggers::trigger_reserved;
@@ -99,11 +100,15 @@ pub struct Reserved {
     pub engine: Engine,
 }
 
-pub fn elapsed_samples(engine: Engine) -> u64 {
+pub fn elapsed_samples(engine: Engine) -> u64
+    ensures { λ r. ⌜ r ≡ engine .clock .sample ⌝ }
+{
     engine.clock.sample
 }
 
-pub fn active_count(engine: Engine) -> usize {
+pub fn active_count(engine: Engine) -> usize
+    ensures { λ r. ⌜ r ≡ activeCount (engine .particles) ⌝ }
+{
     let particles = engine.particles;
     pool::active_count(particles)
 }

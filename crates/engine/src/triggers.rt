@@ -1,5 +1,7 @@
 // Births that a note asks for at once.
 ghost use mathlib.Core.Path.{_≡_};
+ghost use Prim.Native.Nat.{_<_};
+ghost use Rattle.engine.specs.Triggers.{reservedOf, isPermitted, told, triggeredBy, triggeredOf};
 use crate::Engine;
 use crate::Outcome;
 use crate::Reserved;
@@ -8,7 +10,9 @@ use refusals::Refusal;
 
 // An index is reserved when the note arrives, whatever becomes of it: overflow must not shift what
 // later notes draw.
-pub fn reserve_trigger(engine: Engine) -> Reserved {
+pub fn reserve_trigger(engine: Engine) -> Reserved
+    ensures { λ r. ⌜ r ≡ reservedOf engine ⌝ }
+{
     let index = engine.next.immediate_index;
     let after = std::num::wrapping_add_u64(index, 1);
     let mut out = engine;
@@ -16,8 +20,7 @@ pub fn reserve_trigger(engine: Engine) -> Reserved {
     Reserved { index, engine: out }
 }
 
-fn permitted(engine: Engine, slot: usize) -> bool
-{
+fn permitted(engine: Engine, slot: usize) -> bool {
     let config = engine.config;
     let shape = config.shape;
     let source = engine.sources[slot];
@@ -32,11 +35,15 @@ fn permitted(engine: Engine, slot: usize) -> bool
     }
 }
 
-fn told(outcome: Outcome, engine: Engine) -> Triggered {
+fn told(outcome: Outcome, engine: Engine) -> Triggered
+    ensures { λ r. ⌜ r ≡ told outcome engine ⌝ }
+{
     Triggered { outcome, engine }
 }
 
-pub fn trigger_reserved(engine: Engine, slot: usize, index: u64) -> Triggered {
+pub fn trigger_reserved(engine: Engine, slot: usize, index: u64) -> Triggered
+    ensures { λ r. ⌜ r ≡ triggeredBy engine slot index ⌝ }
+{
     if slot >= 256 {
         return told(Outcome::Refused(Refusal::Slot), engine);
     }
@@ -50,7 +57,9 @@ pub fn trigger_reserved(engine: Engine, slot: usize, index: u64) -> Triggered {
     told(Outcome::NotEligible, engine)
 }
 
-pub fn trigger(engine: Engine, slot: usize) -> Triggered {
+pub fn trigger(engine: Engine, slot: usize) -> Triggered
+    ensures { λ r. ⌜ r ≡ triggeredOf engine slot ⌝ }
+{
     let reserved = reserve_trigger(engine);
     let index = reserved.index;
     let with_index = reserved.engine;

@@ -59,7 +59,7 @@ fn first(k: Retired, sample: u64) -> u64
 }
 
 // It leaves its source, so that no later source of the slot retunes it.
-fn retired(p: Particle, sample: u64) -> Particle
+fn marked(p: Particle, sample: u64) -> Particle
     ensures { λ r. ⌜ r ≡ retiredOf sample p ⌝ }
 {
     let retirement = p.retirement;
@@ -85,7 +85,7 @@ fn retire_one(p: Particle, sample: u64) -> Particle
     ensures { λ r. ⌜ r ≡ retireOne sample p ⌝ }
 {
     if p.active {
-        return retired(p, sample);
+        return marked(p, sample);
     }
     p
 }
@@ -106,7 +106,7 @@ fn retire_bound_one(p: Particle, slot: usize, sample: u64) -> Particle
 {
     if p.active {
         if p.source == slot {
-            return retired(p, sample);
+            return marked(p, sample);
         }
     }
     p

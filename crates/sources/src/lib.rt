@@ -1,6 +1,7 @@
 // The 256 source slots: what a note supplies, which sources may be chosen, and the choice of one.
 // A slot's number from 0 to 255 names its source; 256 stands for no source.
 ghost use mathlib.Core.Path.{_≡_};
+ghost use Prim.Native.Nat.{_<_};
 ghost use Rattle.sources.specs.Sources.{noSource, same, isEligible, isAlternative, alternativesOf, nthOf, choiceOf, chosenOf, isPitched, releasedOf};
 
 pub const MAX_SOURCES: usize = 256;
@@ -41,7 +42,11 @@ pub fn same(a: Source, b: Source) -> bool
 pub fn pitched(x: f32) -> bool
     ensures { λ r. ⌜ r ≡ isPitched x ⌝ }
 {
-    if floats::is_finite32(x) { x > 0.0 } else { false }
+    if floats::is_finite32(x) {
+        x > 0.0
+    } else {
+        false
+    }
 }
 
 pub fn eligible(s: Source) -> bool

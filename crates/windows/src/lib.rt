@@ -15,10 +15,17 @@ pub fn taper(x: f32) -> f32 {
 }
 
 pub fn no_window() -> Window {
-    Window { center_log2_hz: 0.0, radius_octaves: 0.0, amplitude: 0.0 }
+    Window {
+        center_log2_hz: 0.0,
+        radius_octaves: 0.0,
+        amplitude: 0.0,
+    }
 }
 
 pub fn empty_frame() -> Frame {
     let w = no_window();
-    Frame { windows: [w; 192], activity: 0.0 }
+    Frame {
+        windows: [w; 192],
+        activity: 0.0,
+    }
 }

@@ -1,5 +1,7 @@
 // The clock: a sample delivers its births, then moves the phase, the offset and the count.
 ghost use mathlib.Core.Path.{_≡_};
+ghost use Prim.Native.Nat.{_<_};
+ghost use Rattle.engine.specs.Time.{triedOf, laneOf, lanesOf, opportunityAfter, cloudOf, deliveredOf, glidedOf, tickedOf, steppedOf, advancedOf};
 use crate::Clock;
 use crate::Done;
 use crate::Engine;
@@ -8,7 +10,10 @@ use refusals::Refusal;
 use settings::Shape;
 
 // One try of a lane. Before the stream's next start it does nothing.
-fn lane_once(engine: Engine, lane: usize, reference: f64) -> Engine {
+fn try_lane(engine: Engine, lane: usize, reference: f64) -> Engine
+    requires { ⌜ lane < 3 ⌝ }
+    ensures { λ r. ⌜ r ≡ triedOf engine lane reference ⌝ }
+{
     let config = engine.config;
     let streams = engine.streams;
     let stream = streams[lane];
@@ -20,25 +25,36 @@ fn lane_once(engine: Engine, lane: usize, reference: f64) -> Engine {
     out.streams[lane] = moved;
     if stream.emit {
         if config.enabled {
-            return crate::birth::birth(out, draws::sprinkle_key(lane, stream.index), sources::MAX_SOURCES);
+            return crate::birth::birth(
+                out,
+                draws::sprinkle_key(lane, stream.index),
+                sources::MAX_SOURCES,
+            );
         }
     }
     out
 }
 
 // A pair may start together; no backlog is kept.
-fn lane(engine: Engine, lane: usize, reference: f64) -> Engine {
-    let once = lane_once(engine, lane, reference);
-    lane_once(once, lane, reference)
+fn deliver_lane(engine: Engine, lane: usize, reference: f64) -> Engine
+    requires { ⌜ lane < 3 ⌝ }
+    ensures { λ r. ⌜ r ≡ laneOf engine lane reference ⌝ }
+{
+    let once = try_lane(engine, lane, reference);
+    try_lane(once, lane, reference)
 }
 
-fn lanes(engine: Engine, reference: f64) -> Engine {
-    let first = lane(engine, 0, reference);
-    let second = lane(first, 1, reference);
-    lane(second, 2, reference)
+fn lanes(engine: Engine, reference: f64) -> Engine
+    ensures { λ r. ⌜ r ≡ lanesOf engine reference ⌝ }
+{
+    let first = deliver_lane(engine, 0, reference);
+    let second = deliver_lane(first, 1, reference);
+    deliver_lane(second, 2, reference)
 }
 
-fn opportunity_after(opportunity: u64, reference: f64) -> u64 {
+fn opportunity_after(opportunity: u64, reference: f64) -> u64
+    ensures { λ r. ⌜ r ≡ opportunityAfter opportunity reference ⌝ }
+{
     let after = std::num::wrapping_add_u64(opportunity, 1);
     let whole = floats::f64_to_u64(floats::max64(floats::floor64(reference), 0.0));
     if after < whole {
@@ -47,11 +63,12 @@ fn opportunity_after(opportunity: u64, reference: f64) -> u64 {
     after
 }
 
-fn cloud(engine: Engine, reference: f64) -> Engine {
+fn cloud(engine: Engine, reference: f64) -> Engine
+    ensures { λ r. ⌜ r ≡ cloudOf engine reference ⌝ }
+{
     let config = engine.config;
     let index = engine.next.opportunity;
     if reference >= timing::timing_reference(index) {
-        let next = engine.next;
         let after = opportunity_after(index, reference);
         let mut out = engine;
         out.next.opportunity = after;
@@ -63,7 +80,9 @@ fn cloud(engine: Engine, reference: f64) -> Engine {
     engine
 }
 
-fn deliver(engine: Engine) -> Engine {
+fn deliver(engine: Engine) -> Engine
+    ensures { λ r. ⌜ r ≡ deliveredOf engine ⌝ }
+{
     let config = engine.config;
     let shape = config.shape;
     let reference = engine.clock.phase + engine.clock.phase_offset;
@@ -77,18 +96,26 @@ fn deliver(engine: Engine) -> Engine {
 }
 
 // The offset glides to the setting by the shorter way.
-fn glide(phase_offset: f64, phase: f32, alpha: f64) -> f64 {
+fn glide(phase_offset: f64, phase: f32, alpha: f64) -> f64
+    ensures { λ r. ⌜ r ≡ glidedOf «phase_offset» phase alpha ⌝ }
+{
     let to = floats::f32_to_f64(phase) - phase_offset + 0.5;
     let difference = floats::rem_euclid64(to, 1.0) - 0.5;
     phase_offset + difference * alpha
 }
 
-fn tick(engine: Engine) -> Engine {
+fn tick(engine: Engine) -> Engine
+    ensures { λ r. ⌜ r ≡ tickedOf engine ⌝ }
+{
     let config = engine.config;
     let clock = engine.clock;
     let step = floats::f32_to_f64(config.rate_hz) / engine.prepared.sample_rate;
     let phase = floats::pick64(config.scheduled, clock.phase + step, clock.phase);
-    let phase_offset = glide(clock.phase_offset, config.phase, engine.prepared.phase_alpha);
+    let phase_offset = glide(
+        clock.phase_offset,
+        config.phase,
+        engine.prepared.phase_alpha,
+    );
     let sample = std::num::wrapping_add_u64(clock.sample, 1);
     let moved = Clock {
         sample,
@@ -100,11 +127,15 @@ fn tick(engine: Engine) -> Engine {
     out
 }
 
-fn step(engine: Engine) -> Engine {
+fn step(engine: Engine) -> Engine
+    ensures { λ r. ⌜ r ≡ steppedOf engine ⌝ }
+{
     tick(deliver(engine))
 }
 
-pub fn advance(engine: Engine, samples: u64) -> Done {
+pub fn advance(engine: Engine, samples: u64) -> Done
+    ensures { λ r. ⌜ r ≡ advancedOf engine samples ⌝ }
+{
     if samples > crate::MAX_ELAPSED_SAMPLES {
         return Done {
             answer: Answer::Refused(Refusal::Elapsed),

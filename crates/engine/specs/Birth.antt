@@ -1,0 +1,98 @@
+-- One birth, line by line as the Rust's `birth`. 256 is no source. Definitions only.
+use Prim.Native.Nat.{ℕ, _+_, _*_}
+use mathlib.Core.Bool.{Bool, false}
+use mathlib.Core.List.{List}
+use lib.Bits.{bitXor}
+use lib.Dec.{eqb, ltb}
+use lib.ListN.{getD, set}
+use lib.Ieee.{binary32, toBits}
+use Rattle.lists.specs.Pick.{pick}
+use Rattle.floats.specs.Word.{rotated}
+use Rattle.draws.specs.Draws.{mixOf, randomOf}
+use Rattle.births.specs.declared.Voice.{Voice}
+use Rattle.births.specs.Births.{freeVoiceOf, sourceVoiceOf, newbornOf}
+use Rattle.pool.specs.declared.Particle.{Particle}
+use Rattle.pool.specs.Pool.{freePlace}
+use Rattle.sources.specs.Sources.{chosenOf}
+use Rattle.engine.specs.declared.Engine.{Engine}
+use Rattle.engine.specs.declared.Next.{Next}
+use Rattle.engine.specs.declared.Tally.{Tally}
+use Rattle.engine.specs.State.{grown, withNext, withParticles, withTally, pastSource}
+
+-- ---- the source: the trigger's own, or by the draw of stream 1
+unfoldable pub chosenFor : Engine → ℕ → ℕ → ℕ
+chosenFor e index own = pick (ltb own 256) own (chosenOf (e .next .«last_source») (e .sources) (randomOf index 1))
+
+-- self.last_source = chosen
+abbrev pub withLast : Next → ℕ → Next
+withLast n slot =
+    record {
+      opportunity = n .opportunity;
+      «immediate_index» = n .«immediate_index»;
+      «last_source» = slot;
+      «note_input_present» = n .«note_input_present»;
+    }
+
+-- ---- the counters
+-- self.dropped += 1
+abbrev pub droppedOne : Tally → Tally
+droppedOne t = record { attempts = t .attempts; births = t .births; dropped = grown (t .dropped); «decision_hash» = t .«decision_hash» }
+
+-- self.attempts += 1
+abbrev pub triedOne : Tally → Tally
+triedOne t = record { attempts = grown (t .attempts); births = t .births; dropped = t .dropped; «decision_hash» = t .«decision_hash» }
+
+-- u64::from_le_bytes([p[0], p[1], p[2], 0, ..])
+unfoldable pub wordOf : List ℕ → ℕ
+wordOf ps = getD ps 0 0 + getD ps 1 0 * 256 + getD ps 2 0 * 65536
+
+-- mix(self.decision_hash ^ index ^ self.sample.rotate_left(19) ^ frequency_hz.to_bits() ^ partials)
+unfoldable pub hashOf : ℕ → ℕ → ℕ → Particle → ℕ
+hashOf before index sample p =
+    mixOf (bitXor (bitXor (bitXor (bitXor before index) (rotated sample 19)) (toBits binary32 (p .«frequency_hz»))) (wordOf (p .partials)))
+
+-- self.births += 1; self.decision_hash = ..
+unfoldable pub bornOne : Tally → ℕ → ℕ → Particle → Tally
+bornOne t index sample p =
+    record {
+      attempts = t .attempts;
+      births = grown (t .births);
+      dropped = t .dropped;
+      «decision_hash» = hashOf (t .«decision_hash») index sample p;
+    }
+
+-- ---- the new particle
+unfoldable pub voiceFor : Engine → ℕ → ℕ → Voice
+voiceFor e index slot =
+    pick (ltb slot 256) (sourceVoiceOf slot (getD (e .sources) slot pastSource))
+    (freeVoiceOf (e .config .shape) index (e .clock .phase) (e .prepared .«sample_rate»))
+
+unfoldable pub newbornFor : Engine → ℕ → ℕ → Particle
+newbornFor e index slot = newbornOf index (voiceFor e index slot) (e .config) (e .prepared .«sample_rate») (e .clock .sample) (e .«partial_weights»)
+
+-- ---- the place: the lowest free one; where there is none, self.dropped += 1
+abbrev pub settledAt : Engine → ℕ → Particle → ℕ → Engine
+settledAt e place p index = withTally (withParticles e (set (e .particles) place p)) (bornOne (e .tally) index (e .clock .sample) p)
+
+unfoldable pub admittedOf : Engine → ℕ → ℕ → Engine
+admittedOf e index slot =
+    let place = freePlace (e .particles) in
+    pick (ltb place 64) (settledAt e place (newbornFor e index slot) index) (withTally e (droppedOne (e .tally)))
+
+-- source.is_none() && self.note_input_present
+unfoldable pub isBarred : ℕ → Bool → Bool
+isBarred slot notes = pick (eqb slot 256) notes false
+
+-- if self.attempts == MAX_BIRTH_ATTEMPTS { self.dropped += 1; return; } self.attempts += 1; if .. { return; }
+unfoldable pub attemptedOf : Engine → ℕ → ℕ → Engine
+attemptedOf e index slot =
+    let out = withTally e (triedOne (e .tally)) in
+    pick (eqb (e .tally .attempts) 64) (withTally e (droppedOne (e .tally)))
+    (pick (isBarred slot (e .next .«note_input_present»)) out (admittedOf out index slot))
+
+-- the choice is stored before anything can turn the birth away
+abbrev pub bornAs : Engine → ℕ → ℕ → Engine
+bornAs e index slot = attemptedOf (withNext e (withLast (e .next) slot)) index slot
+
+unfoldable pub bornOf : Engine → ℕ → ℕ → Engine
+bornOf e index own = bornAs e index (chosenFor e index own)

@@ -1,0 +1,76 @@
+-- A new engine and a reset one, line by line as the Rust has them. Definitions only.
+use Prim.Native.Nat.{ℕ, _+_}
+use mathlib.Core.Bool.{Bool, false}
+use mathlib.Core.List.{List, [], _∷_}
+use lib.IntN.{pos}
+use lib.ListN.{getD, replicate}
+use lib.Ieee.{Float, nan, binary32, ofInt, neg}
+use Rattle.lists.specs.Pick.{pick}
+use Rattle.lists.specs.Table.{table}
+use Rattle.floats.specs.Names.{f32, f64, mul32, sub64, mul64, div64}
+use Rattle.elementary.specs.Exp64.{exp64}
+use Rattle.elementary.specs.Log2.{log2Of}
+use Rattle.elementary.specs.Power.{dbToGain}
+use Rattle.pool.specs.declared.Particle.{Particle}
+use Rattle.pool.specs.Pool.{freeParticle}
+use Rattle.refusals.specs.declared.Refusal.the-variants.{Rate}
+use Rattle.settings.specs.Mending.{defaultConfig, lawfulRate}
+use Rattle.sources.specs.declared.Source.{Source}
+use Rattle.sources.specs.Sources.{noSource}
+use Rattle.timing.specs.Streams.{newOf}
+use Rattle.engine.specs.declared.Done.{Done}
+use Rattle.engine.specs.declared.Engine.{Engine}
+use Rattle.engine.specs.declared.Prepared.{Prepared}
+use Rattle.engine.specs.State.{taken, refused}
+
+-- ---- Prepared
+-- std::array::from_fn(|i| ((i + 1) as f32).log2())
+unfoldable pub partialLogs : List Float
+partialLogs = table 24 (λ i. log2Of (ofInt binary32 (pos (i + 1))))
+
+-- partial_logs.map(|log| db_to_gain(-rolloff * log))
+unfoldable pub weightsOf : List Float → Float → List Float
+weightsOf logs rolloff = table 24 (λ i. dbToGain (mul32 (neg rolloff) (getD logs i nan)))
+
+-- 1.0 - (-1.0 / (0.05 * sample_rate as f64)).exp()
+unfoldable pub alphaOf : Float → Float
+alphaOf rate = sub64 (f64 0x3ff0000000000000) (exp64 (div64 (f64 0xbff0000000000000) (mul64 (f64 0x3fa999999999999a) rate)))
+
+unfoldable pub preparedOf : Float → Prepared
+preparedOf rate =
+    record {
+      «sample_rate» = rate;
+      «phase_alpha» = alphaOf rate;
+      «partial_logs» = partialLogs;
+      «default_partial_weights» = weightsOf partialLogs (f32 0x40c00000);
+    }
+
+-- ---- from_prepared
+unfoldable pub noParticles : List Particle
+noParticles = replicate 64 freeParticle
+
+unfoldable pub noSources : List Source
+noSources = replicate 256 noSource
+
+unfoldable pub newOn : Prepared → Engine
+newOn p =
+    record {
+      particles = noParticles;
+      sources = noSources;
+      prepared = p;
+      clock = record { sample = 0; phase = f64 0; «phase_offset» = f64 0 };
+      next = record { opportunity = 0; «immediate_index» = 0; «last_source» = 256; «note_input_present» = false };
+      streams = newOf 0 false ∷ newOf 1 false ∷ newOf 2 false ∷ [];
+      «partial_weights» = p .«default_partial_weights»;
+      tally = record { attempts = 0; births = 0; dropped = 0; «decision_hash» = 0 };
+      config = defaultConfig;
+      activity = f32 0;
+    }
+
+-- ---- the calls
+-- refusal 1 hands back a new engine at 48,000
+unfoldable pub newEngineOf : Float → Done
+newEngineOf rate = pick (lawfulRate rate) (taken (newOn (preparedOf rate))) (refused Rate (newOn (preparedOf (f32 0x473b8000))))
+
+unfoldable pub resetOf : Engine → Engine
+resetOf e = newOn (e .prepared)

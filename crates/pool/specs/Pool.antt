@@ -1,0 +1,99 @@
+-- The places of the particles, line by line as the Rust has them. A place is free where its particle is not active. Definitions only.
+use Prim.Native.Nat.{ℕ}
+use mathlib.Core.Bool.{Bool, false, not}
+use mathlib.Core.List.{List, [], _∷_}
+use lib.Dec.{eqb}
+use lib.Ieee.{Float}
+use Rattle.lists.specs.Pick.{pick}
+use Rattle.lists.specs.Walk.{count}
+use Rattle.lists.specs.First.{first}
+use Rattle.floats.specs.Names.{f32, f64}
+use Rattle.pool.specs.declared.Particle.{Particle}
+use Rattle.pool.specs.declared.Retired.{Retired}
+use Rattle.pool.specs.declared.Retired.the-variants.{Not, At}
+
+-- Particle::default(); 256 is no source
+unfoldable pub freeParticle : Particle
+freeParticle =
+    record {
+      active = false;
+      source = 256;
+      birth = 0;
+      lifetime = f64 0;
+      «frequency_hz» = f32 0;
+      octave = f32 0;
+      width = f32 0;
+      strength = f32 0;
+      attack = f32 0;
+      «decay_power» = 0;
+      partials = 0 ∷ 0 ∷ 0 ∷ [];
+      retirement = Not;
+    }
+
+-- ---- retirement
+-- p.retirement.get_or_insert(self.sample)
+abbrev pub firstOf : Retired → ℕ → ℕ
+firstOf Not now = now
+firstOf (At t) now = t
+
+-- p.source = None; p.retirement.get_or_insert(self.sample);
+unfoldable pub retiredOf : ℕ → Particle → Particle
+retiredOf now p =
+    record {
+      active = p .active;
+      source = 256;
+      birth = p .birth;
+      lifetime = p .lifetime;
+      «frequency_hz» = p .«frequency_hz»;
+      octave = p .octave;
+      width = p .width;
+      strength = p .strength;
+      attack = p .attack;
+      «decay_power» = p .«decay_power»;
+      partials = p .partials;
+      retirement = At (firstOf (p .retirement) now);
+    }
+
+-- if p.active { .. }
+unfoldable pub retireOne : ℕ → Particle → Particle
+retireOne now p = pick (p .active) (retiredOf now p) p
+
+-- if p.active && p.source == Some(slot) { .. }
+unfoldable pub retireBoundOne : ℕ → ℕ → Particle → Particle
+retireBoundOne slot now p = pick (p .active) (pick (eqb (p .source) slot) (retiredOf now p) p) p
+
+-- ---- a new pitch: if p.active && p.source == Some(slot) { p.frequency_hz = source.frequency_hz; }
+unfoldable pub retunedOf : Float → Particle → Particle
+retunedOf hz p =
+    record {
+      active = p .active;
+      source = p .source;
+      birth = p .birth;
+      lifetime = p .lifetime;
+      «frequency_hz» = hz;
+      octave = p .octave;
+      width = p .width;
+      strength = p .strength;
+      attack = p .attack;
+      «decay_power» = p .«decay_power»;
+      partials = p .partials;
+      retirement = p .retirement;
+    }
+
+unfoldable pub retuneOne : ℕ → Float → Particle → Particle
+retuneOne slot hz p = pick (p .active) (pick (eqb (p .source) slot) (retunedOf hz p) p) p
+
+-- ---- who holds a place
+abbrev pub isHeld : ℕ → Particle → Bool
+isHeld i p = p .active
+
+abbrev pub isFree : ℕ → Particle → Bool
+isFree i p = not (p .active)
+
+-- self.particles.iter().filter(|p| p.active).count()
+abbrev pub activeCount : List Particle → ℕ
+activeCount = count isHeld
+
+-- self.particles.iter_mut().find(|p| !p.active): the lowest free place, or the number of places
+abbrev pub freePlace : List Particle → ℕ
+freePlace = first isFree

@@ -1,0 +1,64 @@
+-- The source slots and the choice of a birth's source, line by line as the Rust has them. 256 stands for its `None`. Definitions only.
+use Prim.Native.Nat.{ℕ, suc, _-_}
+use mathlib.Core.Bool.{Bool, true, false, not}
+use mathlib.Core.List.{List, [], _∷_}
+use lib.IntN.{pos}
+use lib.Dec.{eqb, ltb}
+use lib.Ieee.{Float, binary32, ofInt, toUnsigned, lt, eq}
+use lib.Ieee.Scale.{finite}
+use Rattle.lists.specs.Pick.{pick}
+use Rattle.lists.specs.Walk.{count}
+use Rattle.floats.specs.Names.{f32, mul32}
+use Rattle.sources.specs.declared.Source.{Source}
+
+-- Source::default()
+abbrev pub noSource : Source
+noSource = record { «frequency_hz» = f32 0; strength = f32 0; eligible = false }
+
+-- the derived equality
+abbrev pub sameFlag : Bool → Bool → Bool
+sameFlag a b = pick a b (not b)
+
+unfoldable pub same : Source → Source → Bool
+same a b = pick (eq (a .«frequency_hz») (b .«frequency_hz»)) (pick (eq (a .strength) (b .strength)) (sameFlag (a .eligible) (b .eligible)) false) false
+
+-- x.is_finite() && x > 0.0
+unfoldable pub isPitched : Float → Bool
+isPitched x = pick (finite x) (lt (f32 0) x) false
+
+-- self.eligible && frequency and strength both finite and above 0
+unfoldable pub isEligible : Source → Bool
+isEligible s = pick (s .eligible) (pick (isPitched (s .«frequency_hz»)) (isPitched (s .strength)) false) false
+
+-- self.sources[slot].eligible = false
+abbrev pub releasedOf : Source → Source
+releasedOf s = record { «frequency_hz» = s .«frequency_hz»; strength = s .strength; eligible = false }
+
+-- ---- the choice of a birth's source
+-- s.eligible() && Some(*i) != self.last_source
+unfoldable pub isAlternative : ℕ → ℕ → Source → Bool
+isAlternative last i s = pick (eqb i last) false (isEligible s)
+
+-- .filter(eligible).count()
+abbrev pub alternativesOf : ℕ → List Source → ℕ
+alternativesOf last = count (isAlternative last)
+
+-- .filter(eligible).nth(n), of the sources from slot i on
+unfoldable pub nthFrom : ℕ → ℕ → List Source → ℕ → ℕ
+nthFrom last i [] n = i
+nthFrom last i (s ∷ ss) n = pick (isAlternative last i s) (pick (eqb n 0) i (nthFrom last (suc i) ss (n - 1))) (nthFrom last (suc i) ss n)
+
+abbrev pub nthOf : ℕ → List Source → ℕ → ℕ
+nthOf last ss n = nthFrom last 0 ss n
+
+-- ((random(index, 1) * alternatives as f32) as usize).min(alternatives - 1)
+unfoldable pub choiceOf : Float → ℕ → ℕ
+choiceOf draw n =
+    let at = toUnsigned 64 (mul32 draw (ofInt binary32 (pos n))) in
+    pick (ltb (n - 1) at) (n - 1) at
+
+-- if alternatives == 0 { position(eligible) } else { nth(choice) }; every slot is another than 256
+unfoldable pub chosenOf : ℕ → List Source → Float → ℕ
+chosenOf last ss draw =
+    let n = alternativesOf last ss in
+    pick (eqb n 0) (nthOf 256 ss 0) (nthOf last ss (choiceOf draw n))
