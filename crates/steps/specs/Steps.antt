@@ -17,7 +17,11 @@ use Rattle.engine.specs.declared.Done.{Done}
 use Rattle.engine.specs.declared.Triggered.{Triggered}
 use Rattle.engine.specs.declared.Outcome.{Outcome}
 use Rattle.engine.specs.declared.Outcome.the-variants as O
-use Rattle.engine.specs.Calls.{newEngineOf, resetOf, configureOf, noteInputOf, setSourceOf, retireSourceOf, releaseSourceOf, seekOf, advanceOf, triggerOf, reserveOf, triggerReservedOf, activeCountOf}
+use Rattle.engine.specs.Make.{newEngineOf, resetOf}
+use Rattle.engine.specs.Calls.{configuredOf, notesOf, setSourceOf, retireSourceOf, releaseSourceOf, soughtOf}
+use Rattle.engine.specs.Time.{advancedOf}
+use Rattle.engine.specs.Triggers.{triggeredOf, reservedOf, triggeredBy}
+use Rattle.pool.specs.Pool.{activeCount}
 use Rattle.frame.specs.declared.Framed.{Framed}
 use Rattle.frame.specs.Calls.{takeFrameOf}
 use Rattle.steps.specs.declared.Run.{Run}
@@ -54,8 +58,8 @@ outcomeOf run e O.NotEligible = quietOf run e
 outcomeOf run e O.Dropped = quietOf run e
 outcomeOf run e (O.Refused r) = refusedOf run e r
 
-abbrev pub triggeredOf : Run → Triggered → Stepped
-triggeredOf run t = outcomeOf run (t .engine) (t .outcome)
+abbrev pub firedOf : Run → Triggered → Stepped
+firedOf run t = outcomeOf run (t .engine) (t .outcome)
 
 -- samples * 1000 / whole part of the rate, rounded down; the product is one of 64 bits
 unfoldable pub millisecondsOf : ℕ → Float → ℕ
@@ -66,7 +70,7 @@ valuesOf e activity =
     record {
       sample = e .clock .sample;
       ms = millisecondsOf (e .clock .sample) (e .prepared .«sample_rate»);
-      active = activeCountOf e;
+      active = activeCount (e .particles);
       births = e .tally .births;
       dropped = e .tally .dropped;
       hash = e .tally .«decision_hash»;
@@ -88,15 +92,15 @@ sourceOf frequency strength eligible = record { «frequency_hz» = frequency; st
 
 unfoldable pub stepOf : Run → Field → Stepped
 stepOf run (F.Rate x) = doneOf run (newEngineOf x)
-stepOf run (F.Configure c) = doneOf run (configureOf (run .engine) c)
+stepOf run (F.Configure c) = doneOf run (configuredOf (run .engine) c)
 stepOf run (F.Source s f g b) = doneOf run (setSourceOf (run .engine) s (sourceOf f g b))
 stepOf run (F.Retire s) = doneOf run (retireSourceOf (run .engine) s)
 stepOf run (F.Release s) = doneOf run (releaseSourceOf (run .engine) s)
-stepOf run (F.Trigger s) = triggeredOf run (triggerOf (run .engine) s)
-stepOf run (F.Seek x) = quietOf run (seekOf (run .engine) x)
-stepOf run (F.Advance n) = doneOf run (advanceOf (run .engine) n)
+stepOf run (F.Trigger s) = firedOf run (triggeredOf (run .engine) s)
+stepOf run (F.Seek x) = quietOf run (soughtOf (run .engine) x)
+stepOf run (F.Advance n) = doneOf run (advancedOf (run .engine) n)
 stepOf run (F.Frame b x) = framedOf run (takeFrameOf (run .engine) b x)
-stepOf run (F.NoteInput b) = quietOf run (noteInputOf (run .engine) b)
+stepOf run (F.NoteInput b) = quietOf run (notesOf (run .engine) b)
 stepOf run F.Reset = quietOf run (resetOf (run .engine))
-stepOf run F.Reserve = quietOf run (reserveOf (run .engine) .engine)
-stepOf run (F.ReservedTrigger s i) = triggeredOf run (triggerReservedOf (run .engine) s i)
+stepOf run F.Reserve = quietOf run (reservedOf (run .engine) .engine)
+stepOf run (F.ReservedTrigger s i) = firedOf run (triggeredBy (run .engine) s i)

@@ -1,8 +1,9 @@
 // What one field of a script does to the run.
 ghost use mathlib.Core.Path.{_≡_};
-ghost use Rattle.engine.specs.Calls.{setSourceOf, reserveOf};
+ghost use Rattle.engine.specs.Calls.{setSourceOf};
+ghost use Rattle.engine.specs.Triggers.{reservedOf};
 ghost use Rattle.steps.specs.Steps as Steps;
-ghost use Rattle.steps.specs.Steps.{withEngine, quietOf, refusedOf, doneOf, triggeredOf, millisecondsOf, valuesOf, shownOf, framedOf, sourceOf, stepOf};
+ghost use Rattle.steps.specs.Steps.{withEngine, quietOf, refusedOf, doneOf, firedOf, millisecondsOf, valuesOf, shownOf, framedOf, sourceOf, stepOf};
 use engine::Done;
 use engine::Engine;
 use engine::Outcome;
@@ -93,7 +94,7 @@ fn done(run: Run, done: Done) -> Stepped
 
 // Born, not eligible and dropped print nothing.
 fn triggered(run: Run, t: Triggered) -> Stepped
-    ensures { λ r. ⌜ r ≡ triggeredOf run t ⌝ }
+    ensures { λ r. ⌜ r ≡ firedOf run t ⌝ }
 {
     let engine = t.engine;
     let outcome = t.outcome;
@@ -166,7 +167,7 @@ fn source(run: Run, slot: u16, frequency: f32, strength: f32, eligible: bool) ->
 }
 
 fn reserve(run: Run) -> Stepped
-    ensures { λ r. ⌜ r ≡ quietOf run (reserveOf (run .engine) .engine) ⌝ }
+    ensures { λ r. ⌜ r ≡ quietOf run (reservedOf (run .engine) .engine) ⌝ }
 {
     let reserved = engine::reserve_trigger(run.engine);
     let engine = reserved.engine;
