@@ -1,11 +1,10 @@
 // Reads one field of an event script, at the start of the slice that it is handed.
 ghost use mathlib.Core.Path.{_≡_};
-ghost use Prim.Native.Nat.{_≤_};
-ghost use lib.ListN.{length};
-ghost use Rattle.script.specs.Field.{bodyOf, misplaced, unknown, readOf};
+ghost use Rattle.script.specs.Field.{misplaced, unknown, readOf};
 use refusals::Refusal;
 use settings::Config;
 
+mod body;
 mod bytes;
 mod values;
 
@@ -52,27 +51,6 @@ pub enum Read {
     End,
 }
 
-// From the header on, where the tag stands for a field: its length, its value cut, its value.
-fn body_of(kind: Kind, s: &[u8]) -> Read
-    requires { ⌜ 3 ≤ length (now s) ⌝ }
-    ensures { λ r. ⌜ r ≡ bodyOf kind (now (s .entry)) ⌝ }
-{
-    let n = values::length_of(kind);
-    let said = bytes::be16_at(s, 1) as usize;
-    if said != n {
-        return Read::Bad(Refusal::Cut);
-    }
-    if s.len() - 3 < n {
-        return Read::Bad(Refusal::Cut);
-    }
-    let v = &s[3..];
-    if values::is_lawful(kind, v) {
-        Read::Field(values::field_of(kind, v), 3 + n)
-    } else {
-        Read::Bad(Refusal::Value)
-    }
-}
-
 // The first field is the rate, and no later one is.
 fn is_misplaced(tag: u8, first: bool) -> bool
     ensures { λ r. ⌜ r ≡ misplaced tag first ⌝ }
@@ -106,5 +84,5 @@ pub fn read_field(script: &[u8], first: bool) -> Read
     if unknown {
         return Read::Bad(Refusal::Tag);
     }
-    body_of(values::kind_of(tag), script)
+    body::body_of(values::kind_of(tag), script)
 }

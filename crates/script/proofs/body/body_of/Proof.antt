@@ -2,8 +2,8 @@ use borrow.Author.Tests.{eq-eqb, ne-eqb, le-leb, lt-leb}
 use Rattle.script.specs.Field.{bodyOf}
 use Rattle.script.proofs.Part.{rest}
 use borrow.Author.Needs.{needs}
-use Rattle.script.proofs.body_of.Statement.{statement}
-use Rattle.script.proofs.body_of.Tie as tie
+use Rattle.script.proofs.body.body_of.Statement.{statement}
+use Rattle.script.proofs.body.body_of.Tie as tie
 
 length-of-requires : tie.Need-length-of-requires
 length-of-requires c κs = search needs
