@@ -12,6 +12,44 @@ mod linked {
         pub fn rk_pow8(x: f32) -> f32;
         pub fn rk_pow10(x: f32) -> f32;
         pub fn rk_sqrt(x: f32) -> f32;
+        pub fn rk_probe_gains(
+            flat: *const f32,
+            flat_len: usize,
+            activity: f32,
+            depth_db: f32,
+            logs: *const f32,
+            logs_len: usize,
+            scratch: *mut f32,
+            scratch_len: usize,
+            output: *mut f32,
+            output_len: usize,
+        ) -> u64;
+    }
+}
+
+/// The proved mask call. It answers 01's number for any lengths.
+pub fn gains(
+    flat: &[f32],
+    activity: f32,
+    depth_db: f32,
+    logs: &[f32],
+    scratch: &mut [f32],
+    output: &mut [f32],
+) -> u64 {
+    // The slices are apart, and each pointer goes with its own length.
+    unsafe {
+        linked::rk_probe_gains(
+            flat.as_ptr(),
+            flat.len(),
+            activity,
+            depth_db,
+            logs.as_ptr(),
+            logs.len(),
+            scratch.as_mut_ptr(),
+            scratch.len(),
+            output.as_mut_ptr(),
+            output.len(),
+        )
     }
 }
 

@@ -104,6 +104,9 @@ impl crate::engine::Particles for Engine {
     fn elapsed_samples(&self) -> u64 {
         self.elapsed_samples()
     }
+    fn skip(&mut self, samples: u64) {
+        self.sample += samples;
+    }
     fn active_count(&self) -> usize {
         self.active_count()
     }

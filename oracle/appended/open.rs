@@ -21,6 +21,12 @@ pub mod open {
     pub fn random(index: u64, stream: u64) -> f32 {
         super::random(index, stream)
     }
+    /// A stream's number by its place in the heading: what stands behind `=` and `/`.
+    pub fn stream(place: u64) -> u64 {
+        let numbers = HEADING.split(['=', '/', ',', '.']);
+        let mut numbers = numbers.filter_map(|part| part.trim().parse().ok());
+        numbers.nth(place.min(10) as usize).unwrap()
+    }
     pub fn sprinkle_key(lane: usize, index: u64) -> u64 {
         super::sprinkle_key(lane, index)
     }

@@ -5,10 +5,17 @@ use std::{env, fs};
 
 /// Archive, a name in it, the library to link, and the `cfg` that says so. The probes' archive
 /// stands before the host's, whose functions it may share.
-const FOUND: [(&str, &str, &str, &str); 5] = [
+const FOUND: [(&str, &str, &str, &str); 7] = [
     ("libprobe.a", "rk_probe_floor32", "probe", "probed"),
     ("libprobe.a", "rk_probe_listing", "probe", "listed"),
     ("libprobe.a", "rk_probe_state", "probe", "stated"),
+    (
+        "libprobe.a",
+        "rk_probe_listing_from",
+        "probe",
+        "late_listed",
+    ),
+    ("libprobe.a", "rk_probe_state_from", "probe", "late_stated"),
     ("libhost.a", "rk_log2", "host", "linked"),
     ("libhost.a", "rk_script", "host", "entry"),
 ];
@@ -28,7 +35,9 @@ pub fn link(here: &Path) {
     let has = |archive: &str, symbol: &str| {
         let path = folder.join(archive);
         println!("cargo:rerun-if-changed={}", path.display());
-        fs::read(path).is_ok_and(|b| b.windows(symbol.len()).any(|w| w == symbol.as_bytes()))
+        // A zero ends a name, so that one which only begins like it isn't taken for it.
+        let ended = [symbol.as_bytes(), &[0]].concat();
+        fs::read(path).is_ok_and(|b| b.windows(ended.len()).any(|w| w == ended))
     };
     let mut found = false;
     for (archive, symbol, library, name) in FOUND {

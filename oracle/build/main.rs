@@ -14,6 +14,8 @@ const PARTICLES: &str = "plugins/weft/crates/spectral-dsp/src/particles.rs";
 const SPECTRAL: &str = "plugins/weft/crates/spectral-dsp/src/lib.rs";
 const OIKO: &str = "crates/oiko-dsp/src/lib.rs";
 
+const RUNNER: &str = "src/runner.rs";
+
 const APPENDED: [&str; 4] = ["workspace.rs", "engine.rs", "snapshot.rs", "open.rs"];
 
 /// What goes to our functions: the old text, the new one, and how often it stands in
@@ -44,11 +46,22 @@ fn main() {
         .iter()
         .map(|file| read(&here.join("appended").join(file)))
         .collect();
+    fs::write(out.join("runner.rs"), runner_text(&here, mutant.as_ref())).unwrap();
     for (module, ours, mutant) in [("original", true, mutant), ("plain", false, None)] {
         let text = module_text(&rust, ours, mutant.as_ref()) + &tail;
         fs::write(out.join(module).with_extension("rs"), text).unwrap();
     }
     archive::link(&here);
+}
+
+/// The oracle's own reading of 01's refusals, as a mutant may have it.
+fn runner_text(here: &Path, mutant: Option<&Mutant>) -> String {
+    let mut text = read(&here.join(RUNNER));
+    if let Some(m) = mutant {
+        m.apply(RUNNER, &mut text);
+    }
+    apply(RUNNER, &mut text, &[edit("//! ", "// ", 1)]);
+    text
 }
 
 fn module_text(rust: &Path, ours: bool, mutant: Option<&Mutant>) -> String {
@@ -94,6 +107,12 @@ fn module_text(rust: &Path, ours: bool, mutant: Option<&Mutant>) -> String {
         "pub fn db_to_gain(db: f32) -> f32 {\n",
         "\n}\n",
     );
+    let heading = cut(
+        PARTICLES,
+        &particles,
+        "/// Separate keyed SplitMix64 streams:",
+        "15.",
+    );
     let mut parts = [particles, prepare, db_to_gain];
     if ours {
         for (old, new, counts) in OURS {
@@ -105,7 +124,10 @@ fn module_text(rust: &Path, ours: bool, mutant: Option<&Mutant>) -> String {
         }
     }
     let [particles, prepare, db_to_gain] = parts;
-    format!("{particles}\n{db_to_gain}\nimpl MaskWorkspace {{\n{prepare}}}\n")
+    format!(
+        "{particles}\n{db_to_gain}\nimpl MaskWorkspace {{\n{prepare}}}\n\
+         const HEADING: &str = {heading:?};\n"
+    )
 }
 
 fn read(path: &Path) -> String {

@@ -15,7 +15,7 @@ pub fn last_frame<E: Particles>(script: &[u8], out: &mut [u8]) -> u32 {
         return LENGTH;
     }
     let mut last = Frame::empty();
-    let ended = run(script, |_, answer, _: &E| {
+    let ended = run(0, script, |_, answer, _: &E| {
         if let Answer::Framed(frame) = answer {
             last = (**frame).clone();
         }

@@ -2,7 +2,7 @@
 //! cases there were and how many differ.
 use crate::arguments::{Arguments, ARGUMENTS};
 use crate::probes::{Probe, PROBED, PROBES};
-use crate::{elementary, marked, masks, ours, scripts};
+use crate::{elementary, late, lent, marked, masks, ours, reached, scripts};
 use std::io::{self, Write};
 
 /// A part that differs shows this many of its cases.
@@ -64,6 +64,10 @@ pub fn compare(count: u64, out: &mut impl Write) -> io::Result<bool> {
     let (_, differ) = masks::mask_lines(1, MASKS);
     let differ = vec!["the original's own gains".to_string(); differ];
     sum.own("the mask where 01 follows the Rust", MASKS, &differ)?;
+    let checks = 2 * late::CHECKS as usize;
+    sum.own("late starts and skips", checks, &late::failing())?;
+    let numbers = reached::NUMBERS.len();
+    sum.own("refusals that scripts meet", numbers, &reached::missing())?;
     if ours::LINKED {
         for check in elementary::checks() {
             sum.part(&check.name, check.cases, &check.failed)?;
@@ -75,6 +79,14 @@ pub fn compare(count: u64, out: &mut impl Write) -> io::Result<bool> {
         for probe in PROBES {
             sum.part(&format!("probe {}", probe.name), ARGUMENTS, &probed(probe))?;
         }
+        let (calls, differ) = lent::gains_differ();
+        sum.part("mask calls", calls, &differ)?;
+        sum.part("bin tables", lent::TABLES, &lent::tables_differ())?;
+        sum.part(
+            "attenuations",
+            lent::ATTENUATIONS,
+            &lent::attenuations_differ(),
+        )?;
     } else {
         sum.absent("the float helpers (no libprobe.a)")?;
     }

@@ -5,7 +5,7 @@ use crate::engine::Particles;
 use crate::gen::{script, KINDS};
 use crate::original::Engine;
 use crate::runner::{run, Answer};
-use crate::{calls, listing, masks};
+use crate::{calls, late, listing, masks};
 use std::io::{self, Write};
 
 #[derive(Default)]
@@ -23,9 +23,9 @@ impl Digest {
 }
 
 /// The whole state after every field of a script, and every frame, as one number.
-pub fn state_digest<E: Particles>(script: &[u8]) -> u64 {
+pub fn state_digest<E: Particles>(start: u64, script: &[u8]) -> u64 {
     let mut digest = Digest::default();
-    let ended = run(script, |field, answer, engine: &E| {
+    let ended = run(start, script, |field, answer, engine: &E| {
         digest.word(field as u64);
         engine.visit(&mut |_, _, _, value| digest.word(value.code()));
         if let Answer::Framed(frame) = answer {
@@ -50,9 +50,17 @@ pub fn digest(seeds: u64, out: &mut impl Write) -> io::Result<()> {
                 out,
                 "{} {seed} listing {:016x} bytes {answer} {:016x} state {:016x}",
                 kind.name,
-                Digest::text(listing::listing::<Engine>(&script).as_bytes()),
+                Digest::text(listing::listing::<Engine>(0, &script).as_bytes()),
                 Digest::text(&lent),
-                state_digest::<Engine>(&script),
+                state_digest::<Engine>(0, &script),
+            )?;
+            let start = late::start(seed, &script);
+            writeln!(
+                out,
+                "{} {seed} from {start} listing {:016x} state {:016x}",
+                kind.name,
+                Digest::text(listing::listing::<Engine>(start, &script).as_bytes()),
+                state_digest::<Engine>(start, &script),
             )?;
         }
         for (name, text) in [

@@ -36,6 +36,8 @@ pub trait Particles: Sized {
     fn frame(&mut self, bin_hz: f32, elapsed_seconds: f32) -> Frame;
     fn reset(&mut self);
     fn elapsed_samples(&self) -> u64;
+    /// Counts samples and does nothing else of what they do.
+    fn skip(&mut self, samples: u64);
     fn active_count(&self) -> usize;
     /// Births, dropped, decision hash.
     fn tally(&self) -> (u64, u64, u64);

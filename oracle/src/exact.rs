@@ -42,3 +42,22 @@ pub fn partials() -> Vec<Vec<u64>> {
     }
     list
 }
+
+/// Centre, radius, amplitude and log: places inside a window, at its ends and beside them, and of a
+/// radius of 0 and below.
+pub fn windows() -> Vec<Vec<u64>> {
+    let mut d = Draws::new(0, "windows");
+    let mut list = Vec::new();
+    for n in 0..200_000_u64 {
+        let (centre, radius) = (d.between(3.0, 15.0), d.between(-0.1, 4.0));
+        let log = match n % 4 {
+            0 => centre - radius,
+            1 => centre + radius,
+            2 => centre + radius * d.between(-1.1, 1.1),
+            _ => d.pick(&[centre, 10.0, 12.0]),
+        };
+        let (amplitude, log) = (d.between(0.0, 1.0), word(log) ^ u64::from(n % 5 == 4));
+        list.push(vec![word(centre), word(radius), word(amplitude), log]);
+    }
+    list
+}

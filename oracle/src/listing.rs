@@ -5,10 +5,10 @@ use crate::runner::{run, Answer, Bad, Ended};
 use crate::value::bits32;
 use std::fmt::Write;
 
-pub fn listing<E: Particles>(script: &[u8]) -> String {
+pub fn listing<E: Particles>(start: u64, script: &[u8]) -> String {
     let mut text = String::new();
     let whole_rate = whole_rate(script);
-    let ended = run(script, |field, answer, engine: &E| match answer {
+    let ended = run(start, script, |field, answer, engine: &E| match answer {
         Answer::Framed(frame) => {
             let sample = engine.elapsed_samples();
             let (births, dropped, hash) = engine.tally();

@@ -11,6 +11,8 @@ mod engine;
 mod exact;
 mod field;
 mod gen;
+mod late;
+mod lent;
 #[cfg(linked)]
 mod linked;
 mod listing;
@@ -20,8 +22,8 @@ mod masks;
 mod ours;
 mod port;
 mod probes;
+mod reached;
 mod register;
-mod runner;
 mod scripts;
 #[cfg(not(linked))]
 mod standin;
@@ -40,19 +42,26 @@ mod plain {
     include!(concat!(env!("OUT_DIR"), "/plain.rs"));
 }
 
+/// 01 around the engine. It goes through the build, so that a mutant may change it.
+mod runner {
+    include!(concat!(env!("OUT_DIR"), "/runner.rs"));
+}
+
 use std::io::{self, Read, Write};
 use std::process::ExitCode;
 
 const USAGE: &str = "\
-oracle listing [plain] < script   the listing (plain: with std's functions)
+oracle listing [HOW] < script     the listing
 oracle bytes < script             the last frame's 2,308 bytes; the status is the entry's answer
-oracle state [plain] < script     every field of the state by name, after every field
+oracle state [HOW] < script       every field of the state by name, after every field
 oracle gen SEED KIND > script     a script
+oracle start SEED KIND            the late start of that script
 oracle kinds                      the kinds of scripts
 oracle compare N                  compares the port with the original; N scripts; status 1 on a difference
 oracle calls SEED N               N rounds of single functions of the original, arguments and answers
 oracle masks SEED N               N mask calls, bin tables and attenuations, as short numbers
 oracle digest N                   a line for each of N scripts of every kind
+HOW is plain (with std's functions), from START (on an engine that has counted so many samples), or both
 ";
 
 fn main() -> ExitCode {
@@ -70,8 +79,14 @@ fn main() -> ExitCode {
 fn command(words: &[&str]) -> io::Result<u8> {
     let mut out = io::BufWriter::new(io::stdout().lock());
     match words {
-        ["listing"] => write!(out, "{}", listing::listing::<original::Engine>(&input()?))?,
-        ["listing", "plain"] => write!(out, "{}", listing::listing::<plain::Engine>(&input()?))?,
+        ["listing", how @ ..] => {
+            let text = match start_of(how) {
+                Some((start, false)) => listing::listing::<original::Engine>(start, &input()?),
+                Some((start, true)) => listing::listing::<plain::Engine>(start, &input()?),
+                None => return usage(),
+            };
+            write!(out, "{text}")?;
+        }
         ["bytes"] => {
             let mut lent = [0; bytes::SIZE];
             let answer = bytes::last_frame::<original::Engine>(&input()?, &mut lent);
@@ -81,13 +96,22 @@ fn command(words: &[&str]) -> io::Result<u8> {
             out.flush()?;
             return Ok(answer as u8);
         }
-        ["state"] => state::state::<original::Engine>(&input()?, &mut out)?,
-        ["state", "plain"] => state::state::<plain::Engine>(&input()?, &mut out)?,
-        ["gen", seed, name] => {
+        ["state", how @ ..] => match start_of(how) {
+            Some((start, false)) => {
+                state::state::<original::Engine>(start, &input()?, &mut out)?;
+            }
+            Some((start, true)) => state::state::<plain::Engine>(start, &input()?, &mut out)?,
+            None => return usage(),
+        },
+        [what @ ("gen" | "start"), seed, name] => {
             let (Ok(seed), Some(kind)) = (seed.parse(), gen::named(name)) else {
                 return usage();
             };
-            out.write_all(&gen::script(seed, kind))?;
+            let script = gen::script(seed, kind);
+            match *what {
+                "gen" => out.write_all(&script)?,
+                _ => writeln!(out, "{}", late::start(seed, &script))?,
+            }
         }
         ["kinds"] => {
             for kind in gen::KINDS {
@@ -124,6 +148,22 @@ fn command(words: &[&str]) -> io::Result<u8> {
     }
     out.flush()?;
     Ok(0)
+}
+
+/// The start, and whether std's functions serve.
+fn start_of(how: &[&str]) -> Option<(u64, bool)> {
+    let (plain, rest) = match how {
+        ["plain", rest @ ..] => (true, rest),
+        rest => (false, rest),
+    };
+    match rest {
+        [] => Some((0, plain)),
+        ["from", start] => {
+            let start = start.parse().ok()?;
+            (start <= runner::SAMPLE_LIMIT).then_some((start, plain))
+        }
+        _ => None,
+    }
 }
 
 fn usage() -> io::Result<u8> {

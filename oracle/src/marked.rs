@@ -71,7 +71,7 @@ pub fn marked() -> Vec<(&'static str, bool)> {
         ("SplitMix64's published outputs", published),
         (
             "01's sample script",
-            listing::listing::<Engine>(&SAMPLE) == SAMPLE_LISTING,
+            listing::listing::<Engine>(0, &SAMPLE) == SAMPLE_LISTING,
         ),
         ("10^9 cycles forward seek to 0", sought(1e9) == 0.0),
     ]
@@ -80,7 +80,7 @@ pub fn marked() -> Vec<(&'static str, bool)> {
 /// One float of the state after a script.
 fn state_after(script: &Script, wanted: &str) -> f64 {
     let mut found = f64::NAN;
-    if let Ok(ended) = run::<Engine>(&script.0, |_, _, _| {}) {
+    if let Ok(ended) = run::<Engine>(0, &script.0, |_, _, _| {}) {
         ended.engine.visit(&mut |name, _, _, value| {
             if name == wanted {
                 found = match value {

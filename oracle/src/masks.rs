@@ -33,7 +33,7 @@ pub fn case(d: &mut Draws) -> Case {
     }
 }
 
-fn frame(d: &mut Draws, logs: &[f32]) -> Frame {
+pub fn frame(d: &mut Draws, logs: &[f32]) -> Frame {
     let mut frame = Frame::empty();
     frame.activity = match d.below(4) {
         0 => odd(d),
@@ -113,21 +113,27 @@ pub fn mask_lines(seed: u64, count: usize) -> (String, usize) {
     (text, differ)
 }
 
+/// Rate, FFT size and length of the lent table.
+pub fn bins_case(d: &mut Draws) -> (f32, u64, usize) {
+    let rate = match d.below(4) {
+        0 => odd(d),
+        1 => d.pick(&[8_000.0, 384_000.0, 7_999.999_5, 384_000.03]),
+        _ => rate(d),
+    };
+    let size = match d.below(3) {
+        0 => d.pick(&[0, 1, 2, 3, 16_383, 16_384, 16_385, u64::MAX]),
+        _ => d.below(16_400),
+    };
+    let length = (size.min(20_000) / 2 + u64::from(!d.once_in(8))) as usize;
+    (rate, size, length)
+}
+
 /// One line for each bin table.
 pub fn bin_lines(seed: u64, count: usize) -> String {
     let mut d = Draws::new(seed, "bins");
     let mut text = String::new();
     for _ in 0..count {
-        let rate = match d.below(4) {
-            0 => odd(&mut d),
-            1 => d.pick(&[8_000.0, 384_000.0, 7_999.999_5, 384_000.03]),
-            _ => rate(&mut d),
-        };
-        let size = match d.below(3) {
-            0 => d.pick(&[0, 1, 2, 3, 16_383, 16_384, 16_385, u64::MAX]),
-            _ => d.below(16_400),
-        };
-        let length = (size.min(20_000) / 2 + u64::from(!d.once_in(8))) as usize;
+        let (rate, size, length) = bins_case(&mut d);
         let mut table = vec![9.25; length];
         let answer = mask::bin_table(rate, size, &mut table);
         writeln!(

@@ -15,10 +15,34 @@ extern "C" {
     fn rk_probe_state(script: *const u8, length: usize, out: *mut u8, room: usize) -> usize;
 }
 
+#[cfg(late_listed)]
+extern "C" {
+    fn rk_probe_listing_from(
+        start: u64,
+        script: *const u8,
+        length: usize,
+        out: *mut u8,
+        room: usize,
+    ) -> usize;
+}
+
+#[cfg(late_stated)]
+extern "C" {
+    fn rk_probe_state_from(
+        start: u64,
+        script: *const u8,
+        length: usize,
+        out: *mut u8,
+        room: usize,
+    ) -> usize;
+}
+
 /// Which of these the archives have.
 pub const ENTRY: bool = cfg!(entry);
 pub const LISTED: bool = cfg!(listed);
 pub const STATED: bool = cfg!(stated);
+pub const LATE_LISTED: bool = cfg!(late_listed);
+pub const LATE_STATED: bool = cfg!(late_stated);
 
 /// 01's entry: its answer and the lent bytes after it.
 #[cfg(entry)]
@@ -58,5 +82,35 @@ pub fn state(script: &[u8], room: usize) -> Option<Vec<u8>> {
 
 #[cfg(not(stated))]
 pub fn state(_: &[u8], _: usize) -> Option<Vec<u8>> {
+    None
+}
+
+/// The listing on an engine that has counted `start` samples and is new otherwise.
+#[cfg(late_listed)]
+pub fn listing_from(start: u64, script: &[u8], room: usize) -> Option<Vec<u8>> {
+    let mut out = vec![0; room];
+    let (at, length) = (script.as_ptr(), script.len());
+    let used = unsafe { rk_probe_listing_from(start, at, length, out.as_mut_ptr(), room) };
+    out.truncate(used);
+    Some(out)
+}
+
+#[cfg(not(late_listed))]
+pub fn listing_from(_: u64, _: &[u8], _: usize) -> Option<Vec<u8>> {
+    None
+}
+
+/// The state on an engine that has counted `start` samples and is new otherwise.
+#[cfg(late_stated)]
+pub fn state_from(start: u64, script: &[u8], room: usize) -> Option<Vec<u8>> {
+    let mut out = vec![0; room];
+    let (at, length) = (script.as_ptr(), script.len());
+    let used = unsafe { rk_probe_state_from(start, at, length, out.as_mut_ptr(), room) };
+    out.truncate(used);
+    Some(out)
+}
+
+#[cfg(not(late_stated))]
+pub fn state_from(_: u64, _: &[u8], _: usize) -> Option<Vec<u8>> {
     None
 }

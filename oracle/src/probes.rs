@@ -125,6 +125,7 @@ probes! {
     rotate_left rk_probe_rotate_left(x: u64, n: u32) -> u64 => x.rotate_left(n);
     mix rk_probe_mix(x: u64) -> u64 => open::mix(x);
     random rk_probe_random(index: u64, stream: u64) -> f32 => open::random(index, stream);
+    stream rk_probe_stream(place: u64) -> u64 => open::stream(place);
     sprinkle_key rk_probe_sprinkle_key(lane: u64, index: u64) -> u64 => open::sprinkle_key(lane as usize, index);
     mended_rate rk_probe_mended_rate(x: f32) -> f32 => open::mended(&Settings { rate_hz: x, ..plain() }).rate_hz;
     mended_size rk_probe_mended_size(x: f32) -> f32 => open::mended(&Settings { size_octaves: x, ..plain() }).size_octaves;
@@ -156,4 +157,7 @@ probes! {
         => open::sprinkle_register(index, root_hz, max_hz, way.min(2) as u8).1;
     select_partials rk_probe_select_partials(index: u64, seed: u64, limit: u64, max_ratio: f32) -> u32, at exact::partials
         => packed(open::select_partials(index, weights(seed), limit as usize, max_ratio));
+    taper rk_probe_taper(x: f32) -> f32 => open::taper(x);
+    openness rk_probe_openness(center: f32, radius: f32, amplitude: f32, log2_hz: f32) -> f32, at exact::windows
+        => open::openness([center, radius, amplitude], log2_hz);
 }

@@ -34,8 +34,10 @@ pub struct Ended<E> {
     pub engine: E,
 }
 
-/// Runs a script and shows every field's number, answer and engine.
+/// Runs a script on an engine that has counted `start` samples and is new otherwise, and shows
+/// every field's number, answer and engine.
 pub fn run<E: Particles>(
+    start: u64,
     script: &[u8],
     mut see: impl FnMut(usize, &Answer, &E),
 ) -> Result<Ended<E>, Bad> {
@@ -51,6 +53,7 @@ pub fn run<E: Particles>(
         return Err(bad(1, 1));
     }
     let mut engine = E::new(rate);
+    engine.skip(start);
     let mut count = 1;
     see(count, &Answer::Taken, &engine);
     while !rest.is_empty() {
@@ -100,7 +103,7 @@ pub fn call<E: Particles>(engine: &mut E, field: Field) -> Answer {
             if engine.elapsed_samples() + u64::from(samples) > SAMPLE_LIMIT {
                 return Answer::Refused(4);
             }
-            engine.advance(samples as usize);
+            advance(engine, samples);
         }
         Field::Frame(bin_hz, elapsed) => {
             // Minus zero passes.
@@ -116,6 +119,38 @@ pub fn call<E: Particles>(engine: &mut E, field: Field) -> Answer {
         }
     }
     Answer::Taken
+}
+
+/// An advance that is longer than this is looked at after each so many samples.
+const LONG: u32 = 1 << 16;
+
+/// Steps through the samples, until one changes nothing but the count: a step reads the count only
+/// where it tries a birth, which leaves a mark, so all that follow are the same and are skipped.
+pub fn advance<E: Particles>(engine: &mut E, samples: u32) {
+    let mut left = samples;
+    while left > LONG {
+        let before = uncounted(engine);
+        engine.advance(1);
+        left -= 1;
+        if uncounted(engine) == before {
+            engine.skip(left.into());
+            return;
+        }
+        engine.advance(LONG as usize);
+        left -= LONG;
+    }
+    engine.advance(left as usize);
+}
+
+/// The whole state but the count of samples.
+fn uncounted<E: Particles>(engine: &E) -> Vec<u64> {
+    let mut codes = Vec::new();
+    engine.visit(&mut |name, _, _, value| {
+        if name != "sample" {
+            codes.push(value.code());
+        }
+    });
+    codes
 }
 
 /// A trigger's answer, read off the counters, which the original's own call leaves behind.

@@ -9,7 +9,7 @@ use crate::listing::listing;
 use crate::original::Engine;
 use crate::runner::run;
 use crate::value::Value;
-use crate::{plain, port};
+use crate::{late, plain, port};
 use std::io::{self, Write};
 
 /// So many scripts also run with std's functions, to show what the substitution changes.
@@ -47,6 +47,8 @@ pub fn compare<W: Write>(count: u64, sum: &mut Sum<W>) -> io::Result<()> {
     let mut entry = Part::new("the script entry rk_script", port::ENTRY);
     let mut listed = Part::new("the listing rk_probe_listing", port::LISTED);
     let mut stated = Part::new("the state rk_probe_state", port::STATED);
+    let mut late_listed = Part::new("the listing rk_probe_listing_from", port::LATE_LISTED);
+    let mut late_stated = Part::new("the state rk_probe_state_from", port::LATE_STATED);
     let mut same_plain = 0;
     for n in 0..count {
         let kind = &KINDS[(n % KINDS.len() as u64) as usize];
@@ -54,10 +56,10 @@ pub fn compare<W: Write>(count: u64, sum: &mut Sum<W>) -> io::Result<()> {
         let bytes = script(seed, kind);
         let name = format!("gen {seed} {}", kind.name);
         if port::LISTED || n < PLAIN {
-            let ours = listing::<Engine>(&bytes);
+            let ours = listing::<Engine>(0, &bytes);
             let theirs = port::listing(&bytes, ours.len() + 100);
             listed.add(&name, theirs.map(|text| text == ours.as_bytes()));
-            same_plain += u64::from(n < PLAIN && listing::<plain::Engine>(&bytes) == ours);
+            same_plain += u64::from(n < PLAIN && listing::<plain::Engine>(0, &bytes) == ours);
         }
         // A shorter script shows a frame and the state in the middle.
         for end in ends(&bytes, n) {
@@ -65,8 +67,12 @@ pub fn compare<W: Write>(count: u64, sum: &mut Sum<W>) -> io::Result<()> {
             entry.add(&name, entry_same(&bytes[..end]));
             stated.add(&name, state_same(&bytes[..end]));
         }
+        let start = late::start(seed, &bytes);
+        let name = format!("{name}, from {start}");
+        late_listed.add(&name, late_listing_same(start, &bytes));
+        late_stated.add(&name, late_state_same(start, &bytes));
     }
-    for part in [entry, listed, stated] {
+    for part in [entry, listed, stated, late_listed, late_stated] {
         if part.here {
             sum.part(part.name, part.cases, &part.differing)?;
         } else {
@@ -92,11 +98,35 @@ fn state_same(script: &[u8]) -> Option<bool> {
     if !port::STATED {
         return None;
     }
-    let ended = run::<Engine>(script, |_, _, _| {}).ok()?;
-    let mut want = Vec::new();
-    let mut see = |_, _, _, value: Value| want.extend(value.code().to_be_bytes());
-    ended.engine.visit(&mut see);
+    let want = state_bytes(0, script)?;
     Some(port::state(script, want.len())? == want)
+}
+
+/// The listing of a script on an engine that has counted `start` samples.
+fn late_listing_same(start: u64, script: &[u8]) -> Option<bool> {
+    if !port::LATE_LISTED {
+        return None;
+    }
+    let want = listing::<Engine>(start, script);
+    Some(port::listing_from(start, script, want.len() + 100)? == want.as_bytes())
+}
+
+/// The state after a script on an engine that has counted `start` samples.
+fn late_state_same(start: u64, script: &[u8]) -> Option<bool> {
+    if !port::LATE_STATED {
+        return None;
+    }
+    let want = state_bytes(start, script)?;
+    Some(port::state_from(start, script, want.len())? == want)
+}
+
+/// The original's state as the port hands it over.
+fn state_bytes(start: u64, script: &[u8]) -> Option<Vec<u8>> {
+    let ended = run::<Engine>(start, script, |_, _, _| {}).ok()?;
+    let mut bytes = Vec::new();
+    let mut see = |_, _, _, value: Value| bytes.extend(value.code().to_be_bytes());
+    ended.engine.visit(&mut see);
+    Some(bytes)
 }
 
 /// The end of the script and the end of some field in it.

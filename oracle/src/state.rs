@@ -5,10 +5,10 @@ use crate::runner::{run, Answer, Bad, Ended};
 use crate::value::Value;
 use std::io::{self, Write};
 
-pub fn state<E: Particles>(script: &[u8], out: &mut impl Write) -> io::Result<()> {
+pub fn state<E: Particles>(start: u64, script: &[u8], out: &mut impl Write) -> io::Result<()> {
     let mut seen: Vec<Value> = Vec::new();
     let mut trouble = Ok(());
-    let ended = run(script, |field, answer, engine: &E| {
+    let ended = run(start, script, |field, answer, engine: &E| {
         if trouble.is_ok() {
             trouble = writeln!(out, "field {field} {}", word(answer))
                 .and_then(|()| changes(engine, &mut seen, out));

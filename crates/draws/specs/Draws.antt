@@ -1,6 +1,8 @@
 -- The draws, line by line as the Rust and as SplitMix64's reference in C have them. Definitions only.
 use Prim.Native.Nat.{ℕ, _*_, _/_, _%_, _^_}
+use mathlib.Core.List.{List, [], _∷_}
 use lib.IntN.{pos}
+use lib.ListN.{getD}
 use lib.Bits.{bitOr, bitXor}
 use lib.Ieee.{Float, binary32, ofInt}
 use Rattle.floats.specs.Names.{f32, div32}
@@ -22,6 +24,15 @@ drawnOf index stream = mixOf (bitXor (bitXor seed (product index 0x9e3779b97f4a7
 
 unfoldable pub randomOf : ℕ → ℕ → Float
 randomOf index stream = div32 (ofInt binary32 (pos (drawnOf index stream))) (f32 0x4b800000)
+
+-- timing=0, source/register=1/2, lifetime=3, Sprinkle grouping=5, width=7, free timing=8, opening=10, free root=11, partial count=12
+unfoldable pub streams : List ℕ
+streams = 0 ∷ 1 ∷ 2 ∷ 3 ∷ 5 ∷ 7 ∷ 8 ∷ 10 ∷ 11 ∷ 12 ∷ []
+
+-- weighted draws=13/14/15
+unfoldable pub streamOf : ℕ → ℕ
+unfolding streams
+streamOf place = getD streams place 13
 
 -- (1 << 62) | (lane << 59) | index
 unfoldable pub keyOf : ℕ → ℕ → ℕ

@@ -1,7 +1,7 @@
 // The random draws: SplitMix64's output function over a key, so that a draw depends on its index and
 // its stream alone, and never on the draws before it.
 ghost use mathlib.Core.Path.{_≡_};
-ghost use Rattle.draws.specs.Draws.{mixOf, randomOf, keyOf};
+ghost use Rattle.draws.specs.Draws.{mixOf, randomOf, keyOf, streamOf};
 
 pub const SEED: u64 = 0x7765_6674_7061_7274;
 
@@ -27,6 +27,25 @@ pub const FREE_ROOT: u64 = 11;
 pub const PARTIAL_COUNT: u64 = 12;
 
 pub const PARTIAL_DRAWS: u64 = 13;
+
+// By its place in the original's heading, from 0 on; the last is the first of three.
+pub fn stream(place: u64) -> u64
+    ensures { λ r. ⌜ r ≡ streamOf place ⌝ }
+{
+    match place {
+        0 => TIMING,
+        1 => SOURCE,
+        2 => REGISTER,
+        3 => LIFETIME,
+        4 => GROUPING,
+        5 => WIDTH,
+        6 => FREE_TIMING,
+        7 => OPENING,
+        8 => FREE_ROOT,
+        9 => PARTIAL_COUNT,
+        _ => PARTIAL_DRAWS,
+    }
+}
 
 pub fn mix(x: u64) -> u64
     ensures { λ r. ⌜ r ≡ mixOf x ⌝ }

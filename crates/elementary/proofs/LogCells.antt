@@ -8,7 +8,7 @@ use native.Mathlib.Omega.{arith}
 use lib.Dec.{T, leb, ltb, leb→le}
 use lib.Ieee.Fits.{and-l, and-r}
 use borrow.Author.Tests.{lt-ltb}
-use Rattle.floats.proofs.Tables.{all, all-at}
+use Rattle.lists.specs.All.{all, all-at}
 use Rattle.elementary.specs.Log2.{topOf, tops, slopeOf, slopes, bendOf, bends, fallOf, cellOf, fractionOf}
 
 -- ---- the rule of the table: a cell starts at 0 or above, and ends where the next starts or below; the last ends below 1

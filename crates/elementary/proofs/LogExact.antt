@@ -8,7 +8,7 @@ use lib.Count.{leadingZeros, trailingZeros}
 use lib.Ieee.{Float, nan, inf, fin, binary32, fits, isNan, lt, eq, minus, toBits, round, sum, add, sub, neg, mul, ofInt, ofBits, ofFields, size, span, climb, units, odd}
 use lib.Ieee.Bits.{ofBits-toBits}
 use lib.Ieee.Fits.{add-fits, ofInt-fits, nan-fits, inf-fits}
-use Rattle.floats.proofs.Tables.{all, all-at}
+use Rattle.lists.specs.All.{all, all-at}
 use Rattle.elementary.specs.Rung.{rungOf, digitsOf}
 use Rattle.elementary.specs.Log2.{tops, topOf, slopes, slopeOf, bends, bendOf, fallOf, cellOf, fractionOf, joinedOf, logOf, log2Of}
 use Rattle.elementary.proofs.Tested.{nought}

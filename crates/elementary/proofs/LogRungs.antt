@@ -18,7 +18,7 @@ use lib.Ieee.Scale.{finite, round-same}
 use Rattle.floats.proofs.Rescaled.{powers-join}
 use Rattle.floats.proofs.Rules.{add-number, finite-number, le-trans}
 use Rattle.floats.proofs.Rising.{add-rises}
-use Rattle.floats.proofs.Tables.{all, all-at}
+use Rattle.lists.specs.All.{all, all-at}
 
 -- ---- f units of 2^-24, exact
 abbrev part : ℕ → Float

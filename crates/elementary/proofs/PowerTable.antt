@@ -9,7 +9,7 @@ use lib.Dec.{T, ltb, leb, leb→le, ltb→lt}
 use lib.Pow.{pow-pos}
 use lib.Ieee.Fits.{and-l, and-r}
 use Rattle.floats.proofs.Naturals.{sum-rises, div-rises}
-use Rattle.floats.proofs.Tables.{all, all-at}
+use Rattle.lists.specs.All.{all, all-at}
 use Rattle.elementary.specs.PowerCells.{starts, slopes, bends, startOf, slopeOf, bendOf}
 use Rattle.elementary.specs.Power.{curve, inCell, mantissa}
 

@@ -12,7 +12,7 @@ use lib.Ieee.Positive.{positive, positive-finite}
 use Rattle.floats.proofs.Numbers.{div-number, positive-lt}
 use Rattle.floats.proofs.Rising.{div-rises}
 use Rattle.floats.proofs.Rules.{le-trans}
-use Rattle.floats.proofs.Tables.{all, all-at}
+use Rattle.lists.specs.All.{all, all-at}
 use Rattle.floats.proofs.Same.{same, same→≡}
 use Rattle.elementary.specs.Placed.{edged, placed}
 use Rattle.elementary.specs.PowerCells.{starts, slopes, bends, startOf, slopeOf, bendOf}

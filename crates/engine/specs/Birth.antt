@@ -1,7 +1,6 @@
 -- One birth, line by line as the Rust's `birth`. 256 is no source. Definitions only.
 use Prim.Native.Nat.{ℕ, _+_, _*_}
 use mathlib.Core.Bool.{Bool, false}
-use mathlib.Core.List.{List}
 use lib.Bits.{bitXor}
 use lib.Dec.{eqb, ltb}
 use lib.ListN.{getD, set}
@@ -43,13 +42,14 @@ abbrev pub triedOne : Tally → Tally
 triedOne t = record { attempts = grown (t .attempts); births = t .births; dropped = t .dropped; «decision_hash» = t .«decision_hash» }
 
 -- u64::from_le_bytes([p[0], p[1], p[2], 0, ..])
-unfoldable pub wordOf : List ℕ → ℕ
-wordOf ps = getD ps 0 0 + getD ps 1 0 * 256 + getD ps 2 0 * 65536
+unfoldable pub wordOf : ℕ → ℕ → ℕ → ℕ
+wordOf a b c = a + b * 256 + c * 65536
 
 -- mix(self.decision_hash ^ index ^ self.sample.rotate_left(19) ^ frequency_hz.to_bits() ^ partials)
 unfoldable pub hashOf : ℕ → ℕ → ℕ → Particle → ℕ
 hashOf before index sample p =
-    mixOf (bitXor (bitXor (bitXor (bitXor before index) (rotated sample 19)) (toBits binary32 (p .«frequency_hz»))) (wordOf (p .partials)))
+    let word = wordOf (getD (p .partials) 0 0) (getD (p .partials) 1 0) (getD (p .partials) 2 0) in
+    mixOf (bitXor (bitXor (bitXor (bitXor before index) (rotated sample 19)) (toBits binary32 (p .«frequency_hz»))) word)
 
 -- self.births += 1; self.decision_hash = ..
 unfoldable pub bornOne : Tally → ℕ → ℕ → Particle → Tally

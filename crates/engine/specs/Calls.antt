@@ -54,9 +54,11 @@ reweighed e c =
     (withWeights e (weightsOf (e .prepared .«partial_logs») (c .«partial_rolloff_db»)))
 
 -- if config.enabled != self.config.enabled || config.shape != self.config.shape { self.retire_all(); }
+unfoldable pub sameKind : Config → Config → Bool
+sameKind old c = pick (sameShape (old .shape) (c .shape)) (sameFlag (old .enabled) (c .enabled)) false
+
 unfoldable pub switched : Engine → Config → Engine
-switched e c =
-    pick (sameShape (e .config .shape) (c .shape)) (pick (sameFlag (e .config .enabled) (c .enabled)) e (retiredAll e)) (retiredAll e)
+switched e c = pick (sameKind (e .config) c) e (retiredAll e)
 
 -- if self.sample == 0 { self.phase_offset = config.phase as f64; }
 abbrev pub offsetTo : Clock → Float → Clock

@@ -34,7 +34,7 @@ weightsOf logs rolloff = table 24 (λ i. dbToGain (mul32 (neg rolloff) (getD log
 
 -- 1.0 - (-1.0 / (0.05 * sample_rate as f64)).exp()
 unfoldable pub alphaOf : Float → Float
-alphaOf rate = sub64 (f64 0x3ff0000000000000) (exp64 (div64 (f64 0xbff0000000000000) (mul64 (f64 0x3fa999999999999a) rate)))
+alphaOf rate = sub64 (f64 0x3ff0000000000000) (exp64 (div64 (neg (f64 0x3ff0000000000000)) (mul64 (f64 0x3fa999999999999a) rate)))
 
 unfoldable pub preparedOf : Float → Prepared
 preparedOf rate =

@@ -33,10 +33,10 @@ fn try_one(tally: Tally) -> Tally
     out
 }
 
-fn word(partials: [u8; 3]) -> u64
-    ensures { λ r. ⌜ r ≡ wordOf partials ⌝ }
+fn word(a: u8, b: u8, c: u8) -> u64
+    ensures { λ r. ⌜ r ≡ wordOf a b c ⌝ }
 {
-    partials[0] as u64 + partials[1] as u64 * 256 + partials[2] as u64 * 65536
+    a as u64 + b as u64 * 256 + c as u64 * 65536
 }
 
 fn hash(before: u64, index: u64, sample: u64, p: Particle) -> u64
@@ -45,7 +45,8 @@ fn hash(before: u64, index: u64, sample: u64, p: Particle) -> u64
     let partials = p.partials;
     let turned = floats::rotate_left(sample, 19);
     let bits = floats::bits32(p.frequency_hz) as u64;
-    draws::mix(before ^ index ^ turned ^ bits ^ word(partials))
+    let word = word(partials[0], partials[1], partials[2]);
+    draws::mix(before ^ index ^ turned ^ bits ^ word)
 }
 
 fn bear_one(tally: Tally, index: u64, sample: u64, p: Particle) -> Tally

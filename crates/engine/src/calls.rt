@@ -3,7 +3,7 @@ ghost use mathlib.Core.Path.{_≡_};
 ghost use Prim.Native.Nat.{_<_};
 ghost use Rattle.sources.specs.Sources.{sameFlag};
 ghost use Rattle.engine.specs.State.{taken, refused, withConfig};
-ghost use Rattle.engine.specs.Calls.{isSprinkle, sameShape, retiredAll, aligned, reweighed, switched, offset, enters, preparedAll, restarted, configuredTo, configuredOf, notesOf, placedOf, setSourceOf, retireSourceOf, releaseSourceOf, soughtPhase, soughtOpportunity, soughtOf};
+ghost use Rattle.engine.specs.Calls.{isSprinkle, sameShape, retiredAll, aligned, reweighed, sameKind, switched, offset, enters, preparedAll, restarted, configuredTo, configuredOf, notesOf, placedOf, setSourceOf, retireSourceOf, releaseSourceOf, soughtPhase, soughtOpportunity, soughtOf};
 use crate::Clock;
 use crate::Done;
 use crate::Engine;
@@ -81,17 +81,25 @@ fn reweigh(engine: Engine, config: Config) -> Engine
     out
 }
 
+fn same_kind(before: Config, after: Config) -> bool
+    ensures { λ r. ⌜ r ≡ sameKind before after ⌝ }
+{
+    let from = before.shape;
+    let to = after.shape;
+    if same_shape(from, to) {
+        same_flag(before.enabled, after.enabled)
+    } else {
+        false
+    }
+}
+
 // Another shape, or on in place of off or the other way round, retires every particle.
 fn switch(engine: Engine, config: Config) -> Engine
     ensures { λ r. ⌜ r ≡ switched engine config ⌝ }
 {
-    let old = engine.config;
-    let before = old.shape;
-    let after = config.shape;
-    if same_shape(before, after) {
-        if same_flag(old.enabled, config.enabled) {
-            return engine;
-        }
+    let before = engine.config;
+    if same_kind(before, config) {
+        return engine;
     }
     retire_all(engine)
 }
@@ -204,7 +212,10 @@ pub fn set_note_input_present(engine: Engine, present: bool) -> Engine
     out
 }
 
-fn place_source(engine: Engine, slot: usize, source: Source) -> Engine {
+fn place_source(engine: Engine, slot: usize, source: Source) -> Engine
+    requires { ⌜ slot < 256 ⌝ }
+    ensures { λ r. ⌜ r ≡ placedOf engine slot source ⌝ }
+{
     let mut out = engine;
     out.sources[slot] = source;
     if sources::pitched(source.frequency_hz) {

@@ -11,9 +11,15 @@ use crate::Tally;
 use refusals::Answer;
 use refusals::Refusal;
 
-fn lawful(sample_rate: f32) -> bool {
-    if sample_rate >= 8000.0 {
-        sample_rate <= 384000.0
+fn lawful(sample_rate: f32) -> bool
+    ensures { λ r. ⌜ r ≡ lawfulRate «sample_rate» ⌝ }
+{
+    if floats::is_finite32(sample_rate) {
+        if sample_rate >= 8000.0 {
+            sample_rate <= 384000.0
+        } else {
+            false
+        }
     } else {
         false
     }

@@ -20,7 +20,10 @@ pub fn reserve_trigger(engine: Engine) -> Reserved
     Reserved { index, engine: out }
 }
 
-fn permitted(engine: Engine, slot: usize) -> bool {
+fn permitted(engine: Engine, slot: usize) -> bool
+    requires { ⌜ slot < 256 ⌝ }
+    ensures { λ r. ⌜ r ≡ isPermitted engine slot ⌝ }
+{
     let config = engine.config;
     let shape = config.shape;
     let source = engine.sources[slot];

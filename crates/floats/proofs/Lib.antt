@@ -38,3 +38,4 @@ pub mod Powers
 pub mod Products
 pub mod Ends
 pub mod Wholes
+pub mod Gap

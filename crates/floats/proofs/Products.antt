@@ -1,4 +1,4 @@
--- Products over the format: they commute, and that of two finite numbers from 0 on is not negative and rises with either.
+-- Products over the format: they commute, and that of two finite numbers from 0 on is not negative and rises with either; of one to 0 and one from 0 it is not positive.
 use Prim.Native.Nat.{ℕ, _*_}
 use native.Mathlib.Nat.{mul-comm, zero-mul, mul-pos}
 use native.Mathlib.Omega.{arith}
@@ -53,12 +53,24 @@ module _ (f : Format) where
   nothing-times (inf t) h = absurd h
   nothing-times (fin t n d) h = key→le f nought (mul f nought (fin t n d)) tt (mul-fits f nought (fin t n d)) tt (mul-number f nought (fin t n d) tt tt) (omega (arith, zero-key t n d))
 
+  times-nothing : (x : Float) → T (finite x) → T (le (mul f nought x) nought)
+  unfolding fits isNan
+  times-nothing nan h = absurd h
+  times-nothing (inf t) h = absurd h
+  times-nothing (fin t n d) h = key→le f (mul f nought (fin t n d)) nought (mul-fits f nought (fin t n d)) tt (mul-number f nought (fin t n d) tt tt) tt (omega (arith, zero-key t n d))
+
   module _ (x y : Float) (u : T (finite x)) (v : T (finite y)) where
     pub product-from-zero : T (le nought x) → T (le nought y) → T (le nought (mul f x y))
     unfolding fits
     product-from-zero h g =
         le-trans f nought (mul f nought y) (mul f x y) tt (mul-fits f nought y) (mul-fits f x y) (nothing-times y v)
         (mul-rises f nought x y v g h (mul-number f nought y tt v) (mul-number f x y u v))
+
+    pub product-to-zero : T (le x nought) → T (le nought y) → T (le (mul f x y) nought)
+    unfolding fits
+    product-to-zero h g =
+        le-trans f (mul f x y) (mul f nought y) nought (mul-fits f x y) (mul-fits f nought y) tt
+        (mul-rises f x nought y v g h (mul-number f x y u v) (mul-number f nought y tt v)) (times-nothing y v)
 
     -- it rises with the second
     pub mul-rises-right : (z : Float) → T (finite z) → T (le nought z) → T (le x y) → T (le (mul f z x) (mul f z y))

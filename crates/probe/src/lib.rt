@@ -1,5 +1,5 @@
 // Single layers handed over on numbers, for the comparison with the Rust alone.
-ghost use Rattle.draws.specs.Draws.{keyOf, mixOf, randomOf};
+ghost use Rattle.draws.specs.Draws.{keyOf, mixOf, randomOf, streamOf};
 ghost use Rattle.floats.specs.Choose.{max, min, clamp, abs};
 ghost use Rattle.floats.specs.Convert.{convert};
 ghost use Rattle.floats.specs.Remainder.{remEuclid};
@@ -23,6 +23,14 @@ use settings::Config;
 use settings::Direction;
 use settings::Shape;
 use timing::SprinkleStream;
+
+mod frames;
+
+pub use frames::rk_probe_attenuation_db;
+pub use frames::rk_probe_bin_table;
+pub use frames::rk_probe_gains;
+pub use frames::rk_probe_openness;
+pub use frames::rk_probe_taper;
 
 #[no_mangle]
 pub extern "C" fn rk_probe_floor32(x: f32) -> f32
@@ -232,6 +240,13 @@ pub extern "C" fn rk_probe_random(index: u64, stream: u64) -> f32
     ensures { λ r. ⌜ r ≡ randomOf index stream ⌝ }
 {
     draws::random(index, stream)
+}
+
+#[no_mangle]
+pub extern "C" fn rk_probe_stream(place: u64) -> u64
+    ensures { λ r. ⌜ r ≡ streamOf place ⌝ }
+{
+    draws::stream(place)
 }
 
 #[no_mangle]

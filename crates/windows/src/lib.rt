@@ -1,3 +1,11 @@
+// What a frame shows: 192 windows over the logarithm of frequency, how far each opens a place there,
+// and what the whole frame leaves of it.
+ghost use mathlib.Core.Path.{_≡_};
+ghost use Rattle.windows.specs.Opening.{cubic, taperOf, opennessOf, openedBy, attenuationOf, emptyFrame};
+
+pub const MAX_PARTICLES: usize = 64;
+
+// One harmonic of one particle.
 pub struct Window {
     pub center_log2_hz: f32,
     pub radius_octaves: f32,
@@ -9,23 +17,68 @@ pub struct Frame {
     pub activity: f32,
 }
 
-pub fn taper(x: f32) -> f32 {
-    let y = floats::clamp32(x, 0.0, 1.0);
-    y * y * (3.0 - 2.0 * y)
-}
-
-pub fn no_window() -> Window {
-    Window {
+// The Rust's `Frame::default`.
+pub fn empty_frame() -> Frame
+    ensures { λ r. ⌜ r ≡ emptyFrame ⌝ }
+{
+    let none = Window {
         center_log2_hz: 0.0,
         radius_octaves: 0.0,
         amplitude: 0.0,
+    };
+    let windows = [none; 192];
+    Frame {
+        windows,
+        activity: 0.0,
     }
 }
 
-pub fn empty_frame() -> Frame {
-    let w = no_window();
-    Frame {
-        windows: [w; 192],
-        activity: 0.0,
+fn bent(x: f32) -> f32
+    ensures { λ r. ⌜ r ≡ cubic x ⌝ }
+{
+    x * x * (3.0 - 2.0 * x)
+}
+
+pub fn taper(x: f32) -> f32
+    ensures { λ r. ⌜ r ≡ taperOf x ⌝ }
+{
+    bent(floats::clamp32(x, 0.0, 1.0))
+}
+
+// What is taken from 1 is never negative, so of the Rust's two clamps one test is left.
+pub fn openness(w: Window, log2_hz: f32) -> f32
+    ensures { λ r. ⌜ r ≡ opennessOf w «log2_hz» ⌝ }
+{
+    if w.radius_octaves <= 0.0 {
+        return 0.0;
     }
+    let x = 1.0 - floats::abs32(log2_hz - w.center_log2_hz) / w.radius_octaves;
+    w.amplitude * bent(floats::pick32(x < 0.0, 0.0, x))
+}
+
+// The widest opening that any window gives.
+fn opened(windows: [Window; 192], log2_hz: f32) -> f32
+    ensures { λ r. ⌜ r ≡ openedBy windows «log2_hz» ⌝ }
+{
+    let mut widest = 0.0;
+    for i in 0..192 {
+        let w = windows[i];
+        widest = floats::max32(widest, openness(w, log2_hz));
+    }
+    widest
+}
+
+pub fn attenuation_db(frame: Frame, frequency_hz: f32, depth_db: f32) -> f32
+    ensures { λ r. ⌜ r ≡ attenuationOf frame «frequency_hz» «depth_db» ⌝ }
+{
+    if depth_db <= 0.0 {
+        return 0.0;
+    }
+    let log = elementary::log2(floats::max32(
+        frequency_hz,
+        0.000000000000000000000000000000000000011754944,
+    ));
+    let windows = frame.windows;
+    let openness = opened(windows, log);
+    floats::clamp32(depth_db, 0.0, 60.0) * frame.activity * (1.0 - openness)
 }

@@ -48,7 +48,7 @@ kinds! {
     "start-ties" ties::start_ties, "starts exactly on a sample";
     "seek-ties" ties::seek_ties, "seeks exactly on an opportunity";
     "count-ties" ties::count_ties, "group counts drawn exactly on a limit";
-    "refused" damaged::refused, "every engine refusal that a short script can meet";
+    "refused" damaged::refused, "every engine refusal that a start at 0 can meet";
     "bad" damaged::bad, "every bad number from field 2 on";
     "first-field" damaged::first_field, "what stands first";
     "sizes" damaged::sizes, "scripts around 60,000 bytes";

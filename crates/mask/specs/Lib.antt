@@ -1,0 +1,4 @@
+pub mod Bins
+pub mod Gains
+pub mod Search
+pub mod Walk

@@ -1,0 +1,2 @@
+pub mod Lean
+pub mod Tapered

@@ -1,0 +1,34 @@
+//! Which refusals the generated scripts meet, at their own start or at a late one.
+use crate::gen::{script, KINDS};
+use crate::late;
+use crate::original::Engine;
+use crate::runner::{run, Answer};
+
+/// All numbers but 5 and 6, which no script gives: lent lengths, and the logs of a mask.
+pub const NUMBERS: [u32; 10] = [1, 2, 3, 4, 7, 8, 9, 10, 11, 12];
+
+const SEEDS: u64 = 10;
+
+/// The numbers that no script meets.
+pub fn missing() -> Vec<String> {
+    let mut missing = NUMBERS.to_vec();
+    for seed in 0..SEEDS {
+        for kind in KINDS {
+            if missing.is_empty() {
+                return Vec::new();
+            }
+            let script = script(seed, kind);
+            for start in [0, late::start(seed, &script)] {
+                let ended = run(start, &script, |_, answer, _: &Engine| {
+                    if let Answer::Refused(number) = answer {
+                        missing.retain(|n| n != number);
+                    }
+                });
+                if let Err(bad) = ended {
+                    missing.retain(|n| *n != bad.number);
+                }
+            }
+        }
+    }
+    missing.iter().map(u32::to_string).collect()
+}
