@@ -12,7 +12,7 @@ use Rattle.refusals.specs.declared.Answer.the-variants.{Taken, Refused}
 use Rattle.refusals.specs.declared.Refusal.the-variants.{Lengths}
 use Rattle.windows.specs.declared.Frame.{Frame}
 use Rattle.windows.specs.declared.Window.{Window}
-use Rattle.windows.specs.Windows.{noWindow}
+use Rattle.windows.specs.Opening.{none}
 use Rattle.listing.specs.Ended.{ranOf}
 
 -- a window is centre, radius, amplitude
@@ -21,7 +21,7 @@ partOf w i = pick (eqb i 0) (w .«center_log2_hz») (pick (eqb i 1) (w .«radius
 
 -- number i: three for each of 192 windows, then the activity
 unfoldable pub wordOf : List Window → Float → ℕ → ℕ
-wordOf ws activity i = pick (ltb i 576) (toBits binary32 (partOf (getD ws (i / 3) noWindow) (i % 3))) (toBits binary32 activity)
+wordOf ws activity i = pick (ltb i 576) (toBits binary32 (partOf (getD ws (i / 3) none) (i % 3))) (toBits binary32 activity)
 
 -- byte i of four, big-endian
 unfoldable pub digitOf : ℕ → ℕ → ℕ

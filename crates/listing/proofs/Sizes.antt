@@ -7,7 +7,7 @@ use native.Mathlib.Omega.{arith}
 use lib.ListN.{length, drop, length-append, length-drop}
 use lib.Dec.{eqb, leb}
 use borrow.Author.Tests.{eqb-false, leb-true}
-use Rattle.text.proofs.Laws.{by-test}
+use Rattle.lists.specs.Pick.{by-case}
 use Rattle.text.proofs.Sizes.{dec-size, hex-size}
 use Rattle.text.specs.Ascii.{ascii}
 use Rattle.refusals.specs.declared.Refusal.{Refusal}
@@ -74,7 +74,7 @@ unfolding turnsFrom
 from-size zero run n s = omega arith
 from-size (suc f) run n s =
     let t = turnOf run n s in
-    by-test (eqb (t .taken) 0)
+    by-case (eqb (t .taken) 0)
     (λ y. rw (y, length-append) (omega (arith, line-size (t .line))))
     (λ y.
     rw (y, length-append)
@@ -83,6 +83,6 @@ from-size (suc f) run n s =
 pub size : (s : List ℕ) → length (printed s) ≤ room
 unfolding printed
 size s =
-    by-test (leb (length s) 60000)
+    by-case (leb (length s) 60000)
     (λ y. rw y (omega (arith, leb-true (length s) 60000 y, from-size (length s + 1) fresh 1 s)))
     (λ y. rw (y, length-append) (omega (arith, line-size (L.Bad 0 Script))))

@@ -7,7 +7,7 @@ use lib.Dec.{leb}
 use Rattle.refusals.specs.declared.Answer.{Answer}
 use Rattle.refusals.specs.declared.Answer.the-variants.{Taken, Refused}
 use Rattle.refusals.specs.declared.Refusal.the-variants.{Script}
-use Rattle.windows.specs.Windows.{emptyFrame}
+use Rattle.windows.specs.Opening.{emptyFrame}
 use Rattle.steps.specs.Steps.{fresh}
 use Rattle.listing.specs.declared.Line.{Line}
 use Rattle.listing.specs.declared.Line.the-variants as L

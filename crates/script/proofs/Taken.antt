@@ -7,6 +7,7 @@ use native.Mathlib.Omega.{arith}
 use lib.ListN.{length, getD, drop}
 use lib.Dec.{eqb, ltb, leb}
 use borrow.Author.Tests.{ltb-false, leb-true}
+use Rattle.lists.specs.Pick.{by-case}
 use Rattle.script.specs.Bytes.{be16}
 use Rattle.script.specs.Table.{kindOf, lawful, lengthOf}
 use Rattle.script.specs.Field.{bodyOf, misplaced, unknown, readOf}
@@ -21,16 +22,12 @@ pub data Taken : Read → ℕ → Type 0 where
   bad : {c : Refusal} {m : ℕ} → Taken (R.Bad c) m
   end : {m : ℕ} → Taken R.End m
 
-by-test : {P : Type 0} (t : Bool) → (t ≡ true → P) → (t ≡ false → P) → P
-by-test true f g = f refl
-by-test false f g = g refl
-
 body : (k : Kind) (s : List ℕ) → 3 ≤ length s → Taken (bodyOf k s) (length s)
 unfolding bodyOf
 body k s h =
-    by-test (eqb (be16 s 1) (lengthOf k))
-    (λ y. by-test (leb (lengthOf k) (length s - 3))
-    (λ cut. by-test (lawful k (drop 3 s))
+    by-case (eqb (be16 s 1) (lengthOf k))
+    (λ y. by-case (leb (lengthOf k) (length s - 3))
+    (λ cut. by-case (lawful k (drop 3 s))
     (λ z. rw (y, cut, z) (field {k = 3 + lengthOf k} {m = length s} (omega arith) (omega (arith, leb-true (lengthOf k) (length s - 3) cut))))
     (λ z. rw (y, cut, z) bad))
     (λ cut. rw (y, cut) bad))
@@ -39,12 +36,12 @@ body k s h =
 pub taken : (s : List ℕ) (first : Bool) → Taken (readOf s first) (length s)
 unfolding readOf
 taken s first =
-    by-test (eqb (length s) 0)
-    (λ y. by-test first (λ b. rw (y, b) bad) (λ b. rw (y, b) end))
-    (λ y. by-test (ltb (length s) 3)
+    by-case (eqb (length s) 0)
+    (λ y. by-case first (λ b. rw (y, b) bad) (λ b. rw (y, b) end))
+    (λ y. by-case (ltb (length s) 3)
     (λ z. rw (y, z) bad)
-    (λ z. by-test (misplaced (getD s 0 0) first)
+    (λ z. by-case (misplaced (getD s 0 0) first)
     (λ p. rw (y, z, p) bad)
-    (λ p. by-test (unknown (getD s 0 0))
+    (λ p. by-case (unknown (getD s 0 0))
     (λ t. rw (y, z, p, t) bad)
     (λ t. rw (y, z, p, t) (body (kindOf (getD s 0 0)) s (ltb-false (length s) 3 z))))))

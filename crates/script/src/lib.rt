@@ -73,7 +73,11 @@ pub fn read_field(script: &[u8], first: bool) -> Read
     let misplaced = is_misplaced(tag, first);
     let unknown = is_unknown(tag);
     if script.len() == 0 {
-        return if first { Read::Bad(Refusal::Place) } else { Read::End };
+        return if first {
+            Read::Bad(Refusal::Place)
+        } else {
+            Read::End
+        };
     }
     if cut {
         return Read::Bad(Refusal::Cut);

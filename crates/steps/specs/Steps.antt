@@ -11,7 +11,7 @@ use Rattle.script.specs.declared.Field.{Field}
 use Rattle.script.specs.declared.Field.the-variants as F
 use Rattle.sources.specs.declared.Source.{Source}
 use Rattle.windows.specs.declared.Frame.{Frame}
-use Rattle.windows.specs.Windows.{emptyFrame}
+use Rattle.windows.specs.Opening.{emptyFrame}
 use Rattle.engine.specs.declared.Engine.{Engine}
 use Rattle.engine.specs.declared.Done.{Done}
 use Rattle.engine.specs.declared.Triggered.{Triggered}

@@ -1,3 +1,4 @@
+-- `byte` meets its contract: one test.
 use Rattle.entry.specs.Entry.{byteOf}
 use borrow.Author.Needs.{needs}
 use Rattle.entry.proofs.byte.Statement.{statement}

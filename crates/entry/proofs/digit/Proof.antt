@@ -1,3 +1,4 @@
+-- `digit` meets its contract: the tests in order.
 use Rattle.entry.specs.Entry.{digitOf}
 use Rattle.lists.specs.Pick.{cases}
 use borrow.Author.Needs.{needs}

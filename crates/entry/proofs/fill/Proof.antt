@@ -1,3 +1,4 @@
+-- `fill` meets its contract: the loop fills a table.
 use borrow.Author.Needs.{needs}
 use Prim.Native.Nat.{_-_}
 use mathlib.Core.Path.{sym, _∙_}

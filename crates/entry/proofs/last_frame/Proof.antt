@@ -1,3 +1,4 @@
+-- `last_frame` meets its contract: a way out for each answer.
 use mathlib.Core.Path.{_∙_}
 use Rattle.refusals.specs.declared.Answer.the-variants.{Taken}
 use Rattle.entry.proofs.Ways.{lengths, ran}

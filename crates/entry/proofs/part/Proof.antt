@@ -1,3 +1,4 @@
+-- `part` meets its contract: the tests in order.
 use borrow.Author.Needs.{needs}
 use Rattle.entry.specs.Entry.{partOf}
 use Rattle.lists.specs.Pick.{cases}

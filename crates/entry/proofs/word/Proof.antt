@@ -1,9 +1,10 @@
+-- `word` meets its contract: one test.
 use Prim.Native.Nat.{_/_, _%_}
 use mathlib.Core.Path.{ap}
 use lib.Ieee.{toBits, binary32}
 use Rattle.lists.specs.Default.{getD-any}
 use Rattle.windows.specs.declared.Window.{Window}
-use Rattle.windows.specs.Windows.{noWindow}
+use Rattle.windows.specs.Opening.{none}
 use Rattle.entry.specs.Entry.{partOf, wordOf}
 use Rattle.lists.specs.Pick.{took, skipped}
 use borrow.Author.Tests.{lt-ltb, le-ltb}
@@ -27,7 +28,7 @@ returns : tie.Need-returns
 unfolding wordOf
 returns c =
     let a = c .before .before .before .before .args in
-    took _ _ _ _ (lt-ltb _ _ (c .before .before .before .if1 .taken)) (rw (c .bits32 .ensures, c .before .part .ensures) (ap (λ (w : Window). toBits binary32 (partOf w (a .i % 3))) (getD-any (a .t1) (a .i / 3) _ noWindow (search needs))))
+    took _ _ _ _ (lt-ltb _ _ (c .before .before .before .if1 .taken)) (rw (c .bits32 .ensures, c .before .part .ensures) (ap (λ (w : Window). toBits binary32 (partOf w (a .i % 3))) (getD-any (a .t1) (a .i / 3) _ none (search needs))))
 
 bits32-requires-2 : tie.Need-bits32-requires-2
 bits32-requires-2 c κs = search needs

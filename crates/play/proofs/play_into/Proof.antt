@@ -1,3 +1,4 @@
+-- `play_into` meets its contract: what was read is listed, and what was listed is written.
 use mathlib.Core.Path.{sym}
 use native.Mathlib.Omega.{arith}
 use lib.Seq.{length-take-le}

@@ -1,3 +1,4 @@
+-- `is_misplaced` meets its contract: one test.
 use Rattle.script.specs.Field.{misplaced}
 use Rattle.script.proofs.is_misplaced.Statement.{statement}
 use Rattle.script.proofs.is_misplaced.Tie as tie

@@ -1,3 +1,4 @@
+-- `is_unknown` meets its contract: one test.
 use Rattle.script.specs.Field.{unknown}
 use borrow.Author.Tests.{eq-eqb, ne-eqb}
 use Rattle.script.proofs.is_unknown.Statement.{statement}

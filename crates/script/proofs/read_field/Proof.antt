@@ -1,3 +1,4 @@
+-- `read_field` meets its contract: the tests in order.
 use borrow.Author.Tests.{eq-eqb, ne-eqb, ltb-false}
 use Rattle.script.specs.Field.{readOf}
 use borrow.Author.Needs.{needs}

@@ -1,3 +1,4 @@
+-- `done` meets its contract: a case for each answer.
 use borrow.Author.Needs.{needs}
 use Rattle.steps.proofs.done.Statement.{statement}
 use Rattle.steps.proofs.done.Tie as tie

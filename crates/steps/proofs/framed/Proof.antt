@@ -1,3 +1,4 @@
+-- `framed` meets its contract: a case for each answer.
 use borrow.Author.Needs.{needs}
 use Rattle.steps.proofs.framed.Statement.{statement}
 use Rattle.steps.proofs.framed.Tie as tie

@@ -1,3 +1,4 @@
+-- `fresh` meets its contract: the callees' answers, put together.
 use Rattle.steps.specs.Steps.{fresh}
 use borrow.Author.Needs.{needs}
 use Rattle.steps.proofs.fresh.Statement.{statement}

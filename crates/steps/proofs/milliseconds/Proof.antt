@@ -1,3 +1,4 @@
+-- `milliseconds` meets its contract: a rate of 0 divides to 0, as it does in the definition.
 use Rattle.steps.specs.Steps.{millisecondsOf}
 use native.Mathlib.Nat.{div-zero}
 use borrow.Author.Needs.{needs}

@@ -1,3 +1,4 @@
+-- `quiet` meets its contract: the callee's answer.
 use borrow.Author.Needs.{needs}
 use Rattle.steps.proofs.quiet.Statement.{statement}
 use Rattle.steps.proofs.quiet.Tie as tie

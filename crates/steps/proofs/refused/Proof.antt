@@ -1,3 +1,4 @@
+-- `refused` meets its contract: the callee's answer.
 use borrow.Author.Needs.{needs}
 use Rattle.steps.proofs.refused.Statement.{statement}
 use Rattle.steps.proofs.refused.Tie as tie

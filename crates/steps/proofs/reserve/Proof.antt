@@ -1,3 +1,4 @@
+-- `reserve` meets its contract: the callees' answers, put together.
 use borrow.Author.Needs.{needs}
 use Rattle.steps.proofs.reserve.Statement.{statement}
 use Rattle.steps.proofs.reserve.Tie as tie

@@ -1,3 +1,4 @@
+-- `shown` meets its contract: the callee's answer.
 use borrow.Author.Needs.{needs}
 use Rattle.steps.proofs.shown.Statement.{statement}
 use Rattle.steps.proofs.shown.Tie as tie

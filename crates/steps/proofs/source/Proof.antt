@@ -1,3 +1,4 @@
+-- `source` meets its contract: the callees' answers, put together.
 use borrow.Author.Needs.{needs}
 use Rattle.steps.proofs.source.Statement.{statement}
 use Rattle.steps.proofs.source.Tie as tie

@@ -1,3 +1,4 @@
+-- `step` meets its contract: a case for each field.
 use Rattle.steps.specs.Steps.{stepOf}
 use borrow.Author.Needs.{needs}
 use Rattle.steps.proofs.step.Statement.{statement}

@@ -1,3 +1,4 @@
+-- `triggered` meets its contract: a case for each outcome.
 use borrow.Author.Needs.{needs}
 use Rattle.steps.proofs.triggered.Statement.{statement}
 use Rattle.steps.proofs.triggered.Tie as tie

@@ -1,3 +1,4 @@
+-- `values_of` meets its contract: the callees' answers, put together.
 use Rattle.steps.specs.Steps.{valuesOf}
 use borrow.Author.Needs.{needs}
 use Rattle.steps.proofs.values_of.Statement.{statement}

@@ -1,3 +1,4 @@
+-- `put_end` meets its contract: the pieces in a row.
 use Rattle.text.proofs.Laws.{piece, seq}
 use Rattle.listing.specs.Lines.{endText}
 use borrow.Author.Needs.{needs}

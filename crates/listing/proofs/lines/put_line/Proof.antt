@@ -1,3 +1,4 @@
+-- `put_line` meets its contract: a case for each line.
 use Rattle.text.proofs.Laws.{piece}
 use borrow.Author.Needs.{needs}
 use Rattle.listing.proofs.lines.put_line.Statement.{statement}

@@ -1,3 +1,4 @@
+-- `ended` meets its contract: a case for each line.
 use borrow.Author.Needs.{needs}
 use Rattle.listing.proofs.turns.ended.Statement.{statement}
 use Rattle.listing.proofs.turns.ended.Tie as tie

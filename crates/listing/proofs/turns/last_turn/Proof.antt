@@ -1,3 +1,4 @@
+-- `last_turn` meets its contract: the last of the turns that are left is the last of all.
 use borrow.Author.Needs.{needs}
 use Prim.Native.Nat.{_+_, _-_, _≤_, _<_}
 use native.Mathlib.Omega.{arith}

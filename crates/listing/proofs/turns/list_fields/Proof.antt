@@ -1,3 +1,4 @@
+-- `list_fields` meets its contract: whatever writes the text that is left completes the listing.
 use borrow.Author.Needs.{needs}
 use Prim.Native.Nat.{_+_, _-_, _≤_, _<_}
 use mathlib.Core.Path.{_≡_, refl, _∙_}

@@ -1,3 +1,4 @@
+-- `list_script` meets its contract: a listing is never longer than the room.
 use borrow.Author.Tests.{lt-ltb, le-ltb}
 use mathlib.Core.Path.{_≡_}
 use native.Mathlib.Omega.{arith}

@@ -1,3 +1,4 @@
+-- `listing` meets its contract: one test.
 use borrow.Author.Tests.{le-leb, lt-leb}
 use mathlib.Core.List.{append-nil}
 use Rattle.listing.specs.Lines.{printed}

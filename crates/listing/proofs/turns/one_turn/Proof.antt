@@ -1,3 +1,4 @@
+-- `one_turn` meets its contract: a case for each reading.
 use Rattle.listing.specs.Turns.{turnOf}
 use borrow.Author.Needs.{needs}
 use Rattle.listing.proofs.turns.one_turn.Statement.{statement}

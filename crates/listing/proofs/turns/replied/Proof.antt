@@ -1,3 +1,4 @@
+-- `replied` meets its contract: a case for each reply.
 use borrow.Author.Tests.{eq-eqb, ne-eqb}
 use borrow.Author.Needs.{needs}
 use Rattle.listing.proofs.turns.replied.Statement.{statement}

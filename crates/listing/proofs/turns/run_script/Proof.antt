@@ -1,3 +1,4 @@
+-- `run_script` meets its contract: one test.
 use borrow.Author.Tests.{le-leb, lt-leb}
 use Rattle.listing.specs.Ended.{ranOf}
 use borrow.Author.Needs.{needs}

@@ -1,3 +1,4 @@
+-- `body_of` meets its contract: the tests in order.
 use borrow.Author.Tests.{eq-eqb, ne-eqb, le-leb, lt-leb}
 use Rattle.script.specs.Field.{bodyOf}
 use Rattle.script.proofs.Part.{rest}

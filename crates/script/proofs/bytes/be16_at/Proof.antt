@@ -1,3 +1,4 @@
+-- `be16_at` meets its contract: the callees' answers, put together.
 use borrow.Author.Needs.{needs}
 use Rattle.script.proofs.bytes.be16_at.Statement.{statement}
 use Rattle.script.proofs.bytes.be16_at.Tie as tie

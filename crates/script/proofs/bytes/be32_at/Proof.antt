@@ -1,3 +1,4 @@
+-- `be32_at` meets its contract: the callees' answers, put together.
 use Rattle.script.specs.Bytes.{be32}
 use borrow.Author.Needs.{needs}
 use Rattle.script.proofs.bytes.be32_at.Statement.{statement}

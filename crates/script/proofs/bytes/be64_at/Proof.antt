@@ -1,3 +1,4 @@
+-- `be64_at` meets its contract: the callees' answers, put together.
 use Rattle.script.specs.Bytes.{be64}
 use borrow.Author.Needs.{needs}
 use Rattle.script.proofs.bytes.be64_at.Statement.{statement}

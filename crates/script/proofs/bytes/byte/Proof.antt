@@ -1,3 +1,4 @@
+-- `byte` meets its contract: one test.
 use mathlib.Core.Path.{sym}
 use lib.ListN.{List·getD-eq-default}
 use borrow.Author.Needs.{needs}

@@ -1,3 +1,4 @@
+-- `f32_at` meets its contract: the callees' answers, put together.
 use borrow.Author.Needs.{needs}
 use Rattle.script.proofs.bytes.f32_at.Statement.{statement}
 use Rattle.script.proofs.bytes.f32_at.Tie as tie

@@ -1,3 +1,4 @@
+-- `f64_at` meets its contract: the callees' answers, put together.
 use borrow.Author.Needs.{needs}
 use Rattle.script.proofs.bytes.f64_at.Statement.{statement}
 use Rattle.script.proofs.bytes.f64_at.Tie as tie

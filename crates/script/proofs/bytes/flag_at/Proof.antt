@@ -1,3 +1,4 @@
+-- `flag_at` meets its contract: the callee's answer.
 use borrow.Author.Needs.{needs}
 use Rattle.script.proofs.bytes.flag_at.Statement.{statement}
 use Rattle.script.proofs.bytes.flag_at.Tie as tie

@@ -1,3 +1,4 @@
+-- `up_to` meets its contract: the callee's answer.
 use borrow.Author.Needs.{needs}
 use Rattle.script.proofs.bytes.up_to.Statement.{statement}
 use Rattle.script.proofs.bytes.up_to.Tie as tie

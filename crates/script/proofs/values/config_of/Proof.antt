@@ -1,3 +1,4 @@
+-- `config_of` meets its contract: the callees' answers, put together.
 use borrow.Author.Needs.{needs}
 use Rattle.script.proofs.values.config_of.Statement.{statement}
 use Rattle.script.proofs.values.config_of.Tie as tie

@@ -1,3 +1,4 @@
+-- `direction_at` meets its contract: the tests in order.
 use borrow.Author.Tests.{eq-eqb, ne-eqb}
 use mathlib.Core.Path.{_∙_, sym}
 use borrow.Author.Needs.{needs}

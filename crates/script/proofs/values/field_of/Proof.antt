@@ -1,3 +1,4 @@
+-- `field_of` meets its contract: a case for each kind.
 use borrow.Author.Needs.{needs}
 use Rattle.script.proofs.values.field_of.Statement.{statement}
 use Rattle.script.proofs.values.field_of.Tie as tie

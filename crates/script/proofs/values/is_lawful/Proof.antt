@@ -1,3 +1,4 @@
+-- `is_lawful` meets its contract: a case for each kind.
 use borrow.Author.Needs.{needs}
 use Rattle.script.proofs.values.is_lawful.Statement.{statement}
 use Rattle.script.proofs.values.is_lawful.Tie as tie

@@ -1,3 +1,4 @@
+-- `is_lawful_config` meets its contract: the callees' answers, put together.
 use borrow.Author.Needs.{needs}
 use Rattle.script.proofs.values.is_lawful_config.Statement.{statement}
 use Rattle.script.proofs.values.is_lawful_config.Tie as tie

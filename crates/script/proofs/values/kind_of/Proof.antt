@@ -1,3 +1,4 @@
+-- `kind_of` meets its contract: the table by its index.
 use mathlib.Core.Path.{sym}
 use lib.ListN.{List·getD-eq-default}
 use Rattle.script.specs.Table.{kinds}

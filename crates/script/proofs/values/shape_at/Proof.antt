@@ -1,3 +1,4 @@
+-- `shape_at` meets its contract: one test.
 use borrow.Author.Tests.{eq-eqb, ne-eqb}
 use mathlib.Core.Path.{_∙_, sym}
 use borrow.Author.Needs.{needs}
