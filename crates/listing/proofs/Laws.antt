@@ -21,7 +21,8 @@ use Rattle.steps.specs.declared.Reply.the-variants as R
 use Rattle.listing.specs.declared.Turn.{Turn}
 use Rattle.steps.specs.Steps.{fresh, stepOf}
 use Rattle.listing.specs.Turns.{refusalOf, repliedOf, afterOf, turnOf, turnsFrom, turnsOf}
-use Rattle.listing.specs.Lines.{textOf, textAll, linesOf}
+use Rattle.lines.specs.Lines.{textOf, textAll}
+use Rattle.listing.specs.Printed.{linesOf}
 
 refusal-taken : (b : Bool) (run : Run) (n k : ℕ) (r : Refusal) (m : ℕ) → k ≤ m → refusalOf b run n k r .taken ≤ m
 refusal-taken true run n k r m h = zero-le

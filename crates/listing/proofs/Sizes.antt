@@ -8,47 +8,23 @@ use lib.ListN.{length, drop, length-append, length-drop}
 use lib.Dec.{eqb, leb}
 use borrow.Author.Tests.{eqb-false, leb-true}
 use Rattle.lists.specs.Pick.{by-case}
-use Rattle.text.proofs.Sizes.{dec-size, hex-size}
-use Rattle.text.specs.Ascii.{ascii}
 use Rattle.refusals.specs.declared.Refusal.{Refusal}
 use Rattle.refusals.specs.declared.Refusal.the-variants.{Script}
-use Rattle.refusals.specs.Numbers.{numberOf}
 use Rattle.script.specs.declared.Read.{Read}
 use Rattle.script.specs.declared.Read.the-variants as S
 use Rattle.script.specs.Field.{readOf}
 use Rattle.script.proofs.Taken.{Taken, field, bad, end, taken}
 use Rattle.steps.specs.declared.Run.{Run}
-use Rattle.steps.specs.declared.Values.{Values}
 use Rattle.steps.specs.declared.Reply.{Reply}
 use Rattle.steps.specs.declared.Reply.the-variants as R
-use Rattle.listing.specs.declared.Line.{Line}
-use Rattle.listing.specs.declared.Line.the-variants as L
+use Rattle.lines.specs.declared.Line.the-variants as L
 use Rattle.steps.specs.Steps.{fresh, stepOf}
 use Rattle.listing.specs.Turns.{refusalOf, repliedOf, afterOf, turnOf, turnsFrom}
-use Rattle.listing.specs.Lines.{frameText, fieldText, endText, textOf, textAll, linesOf, printed}
+use Rattle.lines.specs.Lines.{textAll}
+use Rattle.lines.proofs.Sizes.{line-size}
+use Rattle.listing.specs.Printed.{linesOf, printed}
 use Rattle.listing.specs.Listed.{room}
 use Rattle.listing.proofs.Laws.{turn-taken}
-
-frame-size : (n : ℕ) (v : Values) → length (frameText n v) ≤ 204
-unfolding frameText
-frame-size n v =
-    simp length-append
-    (omega (arith, dec-size n, dec-size (v .sample), dec-size (v .ms), dec-size (v .active), dec-size (v .births), dec-size (v .dropped), hex-size 16 (v .hash), hex-size 8 (v .activity)))
-
-field-size : (n : ℕ) (w : List ℕ) (r : Refusal) → length w ≤ 9 → length (fieldText n w r) ≤ 204
-unfolding fieldText
-field-size n w r h = simp length-append (omega (arith, dec-size n, dec-size (numberOf r)))
-
-end-size : (n : ℕ) → length (endText n) ≤ 204
-unfolding endText
-end-size n = simp length-append (omega (arith, dec-size n))
-
-line-size : (l : Line) → length (textOf l) ≤ 204
-line-size L.Nothing = omega arith
-line-size (L.Frame n v) = frame-size n v
-line-size (L.Refused n r) = field-size n (ascii " refused ") r (omega arith)
-line-size (L.Bad n r) = field-size n (ascii " bad ") r (omega arith)
-line-size (L.End n) = end-size n
 
 refusal-three : (b : Bool) (run : Run) (n k : ℕ) (r : Refusal) → 3 ≤ k → (refusalOf b run n k r .taken ≡ 0 → ⊥) → 3 ≤ refusalOf b run n k r .taken
 refusal-three true run n k r h z = absurd (z refl)

@@ -9,8 +9,8 @@ use Rattle.refusals.specs.declared.Answer.the-variants.{Taken, Refused}
 use Rattle.refusals.specs.declared.Refusal.the-variants.{Script}
 use Rattle.windows.specs.Opening.{emptyFrame}
 use Rattle.steps.specs.Steps.{fresh}
-use Rattle.listing.specs.declared.Line.{Line}
-use Rattle.listing.specs.declared.Line.the-variants as L
+use Rattle.lines.specs.declared.Line.{Line}
+use Rattle.lines.specs.declared.Line.the-variants as L
 use Rattle.listing.specs.declared.Turn.{Turn}
 use Rattle.listing.specs.declared.Ended.{Ended}
 use Rattle.listing.specs.Turns.{turnOf, turnsOf}

@@ -1,4 +1,4 @@
 pub mod Turns
-pub mod Lines
+pub mod Printed
 pub mod Listed
 pub mod Ended

@@ -7,7 +7,7 @@ use lib.Dec.{ltb}
 use Rattle.text.specs.Put.{splice}
 use Rattle.listing.specs.declared.Listed.{Listed}
 use Rattle.listing.specs.declared.Listed.the-variants.{Count, NoRoom}
-use Rattle.listing.specs.Lines.{printed}
+use Rattle.listing.specs.Printed.{printed}
 
 -- the longest listing that a script of lawful size can have
 abbrev pub room : ℕ

@@ -11,8 +11,8 @@ use Rattle.script.specs.Field.{readOf}
 use Rattle.steps.specs.declared.Run.{Run}
 use Rattle.steps.specs.declared.Reply.{Reply}
 use Rattle.steps.specs.declared.Reply.the-variants as R
-use Rattle.listing.specs.declared.Line.{Line}
-use Rattle.listing.specs.declared.Line.the-variants as L
+use Rattle.lines.specs.declared.Line.{Line}
+use Rattle.lines.specs.declared.Line.the-variants as L
 use Rattle.listing.specs.declared.Turn.{Turn}
 use Rattle.steps.specs.Steps.{fresh, stepOf}
 

@@ -1,25 +1,14 @@
 // Runs a script: its fields go to an engine one after the other, and what they print goes into a lent
 // buffer.
+use lines::Line;
 use refusals::Answer;
-use refusals::Refusal;
 use steps::Run;
-use steps::Values;
 use windows::Frame;
 
-mod lines;
 mod turns;
 
 pub use turns::list_script;
 pub use turns::run_script;
-
-// The number of the field, and what its line says; the last line has the count of fields.
-pub enum Line {
-    Nothing,
-    Frame(u64, Values),
-    Refused(u64, Refusal),
-    Bad(u64, Refusal),
-    End(u64),
-}
 
 // One turn: the run after it, its line, and how many bytes of script it took, 0 to stop.
 pub struct Turn {

@@ -4,13 +4,14 @@ ghost use Prim.Native.Nat.{_<_};
 ghost use lib.ListN.{length};
 ghost use Rattle.text.specs.Put.{Put};
 ghost use Rattle.listing.specs.Turns.{toldOf, repliedOf, turnOf, turnsOf};
-ghost use Rattle.listing.specs.Lines.{linesOf, textAll, printed};
+ghost use Rattle.lines.specs.Lines.{textAll};
+ghost use Rattle.listing.specs.Printed.{linesOf, printed};
 ghost use Rattle.listing.specs.Listed.{listedOf, leftIn};
 ghost use Rattle.listing.specs.Ended.{lastTurn, endedOf, ranOf};
 use crate::Ended;
-use crate::Line;
 use crate::Listed;
 use crate::Turn;
+use lines::Line;
 use refusals::Answer;
 use refusals::Refusal;
 use script::Read;
@@ -69,7 +70,7 @@ fn list_fields(script: &[u8], out: &mut [u8]) -> usize
     loop {
         let turn = one_turn(run, n, &script[at..]);
         let line = turn.line;
-        w = crate::lines::put_line(out, w, line);
+        w = lines::put_line(out, w, line);
         let k = turn.taken;
         if k == 0 {
             return w;
@@ -87,7 +88,7 @@ fn listing(script: &[u8], out: &mut [u8]) -> usize
     if script.len() <= 60000 {
         list_fields(script, out)
     } else {
-        crate::lines::put_line(out, 0, Line::Bad(0, Refusal::Script))
+        lines::put_line(out, 0, Line::Bad(0, Refusal::Script))
     }
 }
 

@@ -3,7 +3,7 @@ use borrow.Author.Tests.{lt-ltb, le-ltb}
 use mathlib.Core.Path.{_≡_}
 use native.Mathlib.Omega.{arith}
 use lib.ListN.{length}
-use Rattle.listing.specs.Lines.{printed}
+use Rattle.listing.specs.Printed.{printed}
 use Rattle.listing.proofs.Sizes.{size}
 use borrow.Author.Needs.{needs}
 use Rattle.listing.proofs.turns.list_script.Statement.{statement}

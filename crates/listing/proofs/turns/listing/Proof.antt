@@ -1,7 +1,7 @@
 -- `listing` meets its contract: one test.
 use borrow.Author.Tests.{le-leb, lt-leb}
 use mathlib.Core.List.{append-nil}
-use Rattle.listing.specs.Lines.{printed}
+use Rattle.listing.specs.Printed.{printed}
 use borrow.Author.Needs.{needs}
 use Rattle.listing.proofs.turns.listing.Statement.{statement}
 use Rattle.listing.proofs.turns.listing.Tie as tie

@@ -1,9 +1,9 @@
 -- `put_frame` meets its contract: the pieces in a row.
 use Rattle.text.proofs.Laws.{piece, seq}
-use Rattle.listing.specs.Lines.{frameText}
+use Rattle.lines.specs.Lines.{frameText}
 use borrow.Author.Needs.{needs}
-use Rattle.listing.proofs.lines.put_frame.Statement.{statement}
-use Rattle.listing.proofs.lines.put_frame.Tie as tie
+use Rattle.lines.proofs.put_frame.Statement.{statement}
+use Rattle.lines.proofs.put_frame.Tie as tie
 
 slice-aggregate-put : tie.Need-slice-aggregate-put
 slice-aggregate-put c = search needs

@@ -1,13 +1,21 @@
-// The text of a line, into a lent buffer from a place on.
-ghost use Rattle.listing.specs.Lines.{frameText, fieldText, endText, textOf};
+// What a script prints: a line by its values, and its text into a lent buffer.
+ghost use Rattle.lines.specs.Lines.{frameText, fieldText, endText, textOf};
 ghost use Rattle.text.specs.Put.{Put};
-use crate::Line;
 use refusals::Refusal;
 use steps::Values;
 use text::put;
 use text::put_dec;
 use text::put_hex32;
 use text::put_hex64;
+
+// The number of the field, and what its line says; the last line has the count of fields.
+pub enum Line {
+    Nothing,
+    Frame(u64, Values),
+    Refused(u64, Refusal),
+    Bad(u64, Refusal),
+    End(u64),
+}
 
 fn put_frame(out: &mut [u8], at: usize, n: u64, v: Values) -> usize
     ensures { λ r. ⌜ Put (now (out .entry)) (now (out .exit)) at r (frameText n v) ⌝ }

@@ -1,9 +1,9 @@
 -- `put_end` meets its contract: the pieces in a row.
 use Rattle.text.proofs.Laws.{piece, seq}
-use Rattle.listing.specs.Lines.{endText}
+use Rattle.lines.specs.Lines.{endText}
 use borrow.Author.Needs.{needs}
-use Rattle.listing.proofs.lines.put_end.Statement.{statement}
-use Rattle.listing.proofs.lines.put_end.Tie as tie
+use Rattle.lines.proofs.put_end.Statement.{statement}
+use Rattle.lines.proofs.put_end.Tie as tie
 
 slice-aggregate-put : tie.Need-slice-aggregate-put
 slice-aggregate-put c = search needs

@@ -1,8 +1,8 @@
 -- `put_line` meets its contract: a case for each line.
 use Rattle.text.proofs.Laws.{piece}
 use borrow.Author.Needs.{needs}
-use Rattle.listing.proofs.lines.put_line.Statement.{statement}
-use Rattle.listing.proofs.lines.put_line.Tie as tie
+use Rattle.lines.proofs.put_line.Statement.{statement}
+use Rattle.lines.proofs.put_line.Tie as tie
 
 enum-told : tie.Need-enum-told
 enum-told c = search needs

@@ -1,9 +1,9 @@
 -- `put_field` meets its contract: the pieces in a row.
 use Rattle.text.proofs.Laws.{piece, seq}
-use Rattle.listing.specs.Lines.{fieldText}
+use Rattle.lines.specs.Lines.{fieldText}
 use borrow.Author.Needs.{needs}
-use Rattle.listing.proofs.lines.put_field.Statement.{statement}
-use Rattle.listing.proofs.lines.put_field.Tie as tie
+use Rattle.lines.proofs.put_field.Statement.{statement}
+use Rattle.lines.proofs.put_field.Tie as tie
 
 slice-aggregate-put : tie.Need-slice-aggregate-put
 slice-aggregate-put c = search needs

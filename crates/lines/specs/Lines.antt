@@ -1,19 +1,13 @@
--- The lines that a script prints, and their text. Definitions only.
+-- The text of the lines that a script prints. Definitions only.
 use Prim.Native.Nat.{ℕ}
-use mathlib.Core.Bool.{cond}
-use mathlib.Core.List.{List, [], _∷_, _++_, map}
-use lib.ListN.{length}
-use lib.Dec.{leb}
+use mathlib.Core.List.{List, [], _∷_, _++_}
 use Rattle.text.specs.Ascii.{ascii}
 use Rattle.text.specs.Number.{dec, hex}
 use Rattle.refusals.specs.declared.Refusal.{Refusal}
-use Rattle.refusals.specs.declared.Refusal.the-variants.{Script}
 use Rattle.refusals.specs.Numbers.{numberOf}
 use Rattle.steps.specs.declared.Values.{Values}
-use Rattle.listing.specs.declared.Line.{Line}
-use Rattle.listing.specs.declared.Line.the-variants as L
-use Rattle.listing.specs.declared.Turn.{Turn}
-use Rattle.listing.specs.Turns.{turnsOf}
+use Rattle.lines.specs.declared.Line.{Line}
+use Rattle.lines.specs.declared.Line.the-variants as L
 
 unfoldable pub frameText : ℕ → Values → List ℕ
 frameText n v =
@@ -44,13 +38,3 @@ textOf (L.End n) = endText n
 abbrev pub textAll : List Line → List ℕ
 textAll [] = []
 textAll (l ∷ ls) = textOf l ++ textAll ls
-
-abbrev pub linesOf : List Turn → List Line
-linesOf ts = map (λ (t : Turn). t .line) ts
-
--- a script of lawful size prints the lines of its turns; a longer one is not run
-abbrev pub lines : List ℕ → List Line
-lines s = cond (leb (length s) 60000) (linesOf (turnsOf s)) (L.Bad 0 Script ∷ [])
-
-unfoldable pub printed : List ℕ → List ℕ
-printed s = textAll (lines s)
