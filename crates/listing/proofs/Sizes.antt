@@ -6,7 +6,7 @@ use mathlib.Core.List.{List}
 use native.Mathlib.Omega.{arith}
 use lib.ListN.{length, drop, length-append, length-drop}
 use lib.Dec.{eqb, leb}
-use borrow.Author.Tests.{eqb-false, leb-true}
+use borrow.Author.Tests.{eqb-false}
 use Rattle.lists.specs.Pick.{by-case}
 use Rattle.refusals.specs.declared.Refusal.{Refusal}
 use Rattle.refusals.specs.declared.Refusal.the-variants.{Script}
@@ -23,7 +23,7 @@ use Rattle.listing.specs.Turns.{refusalOf, repliedOf, afterOf, turnOf, t
 use Rattle.lines.specs.Lines.{textAll}
 use Rattle.lines.proofs.Sizes.{line-size}
 use Rattle.listing.specs.Printed.{linesOf, printed}
-use Rattle.listing.specs.Listed.{room}
+use Rattle.listing.specs.Listed.{roomFor}
 use Rattle.listing.proofs.Laws.{turn-taken}
 
 refusal-three : (b : Bool) (run : Run) (n k : ℕ) (r : Refusal) → 3 ≤ k → (refusalOf b run n k r .taken ≡ 0 → ⊥) → 3 ≤ refusalOf b run n k r .taken
@@ -56,9 +56,8 @@ from-size (suc f) run n s =
     rw (y, length-append)
     (omega (arith, line-size (t .line), turn-taken run n s, turn-three run n s (eqb-false (t .taken) 0 y), length-drop (t .taken) s, from-size f (t .run) (n + 1) (drop (t .taken) s))))
 
-pub size : (s : List ℕ) → length (printed s) ≤ room
+pub size : (s : List ℕ) → length (printed s) ≤ roomFor (length s)
 unfolding printed
 size s =
-    by-case (leb (length s) 60000)
-    (λ y. rw y (omega (arith, leb-true (length s) 60000 y, from-size (length s + 1) fresh 1 s)))
+    by-case (leb (length s) 60000) (λ y. rw y (from-size (length s + 1) fresh 1 s))
     (λ y. rw (y, length-append) (omega (arith, line-size (L.Bad 0 Script))))

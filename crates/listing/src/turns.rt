@@ -6,7 +6,7 @@ ghost use Rattle.text.specs.Put.{Put};
 ghost use Rattle.listing.specs.Turns.{toldOf, repliedOf, turnOf, turnsOf};
 ghost use Rattle.lines.specs.Lines.{textAll};
 ghost use Rattle.listing.specs.Printed.{linesOf, printed};
-ghost use Rattle.listing.specs.Listed.{listedOf, leftIn};
+ghost use Rattle.listing.specs.Listed.{roomFor, listedOf, leftIn};
 ghost use Rattle.listing.specs.Ended.{lastTurn, endedOf, ranOf};
 use crate::Ended;
 use crate::Listed;
@@ -92,12 +92,20 @@ fn listing(script: &[u8], out: &mut [u8]) -> usize
     }
 }
 
+// Room for the longest listing of a script of n bytes.
+fn room(n: usize) -> usize
+    ensures { λ r. ⌜ r ≡ roomFor n ⌝ }
+{
+    if n <= 60000 { 68 * n + 204 } else { 204 }
+}
+
 // What the script prints, at the start of `out`, and the count of its bytes. `out` has room for the
-// longest listing, or is left as it is.
+// longest listing of so many bytes of script, or is left as it is.
 pub fn list_script(script: &[u8], out: &mut [u8]) -> Listed
     ensures { λ r. ⌜ (r ≡ listedOf (length (now (out .entry))) (now (script .entry))) × (now (out .exit) ≡ leftIn (now (out .entry)) (now (script .entry))) ⌝ }
 {
-    if out.len() < 4080204 {
+    let needed = room(script.len());
+    if out.len() < needed {
         return Listed::NoRoom;
     }
     let n = listing(script, out);
