@@ -1,0 +1,34 @@
+-- How long a line can be.
+use Prim.Native.Nat.{ℕ, _≤_}
+use mathlib.Core.List.{List}
+use native.Mathlib.Omega.{arith}
+use lib.ListN.{length, length-append}
+use Rattle.text.proofs.Sizes.{dec-size, hex-size}
+use Rattle.text.specs.Ascii.{ascii}
+use Rattle.refusals.specs.declared.Refusal.{Refusal}
+use Rattle.refusals.specs.Numbers.{numberOf}
+use Rattle.steps.specs.declared.Values.{Values}
+use Rattle.lines.specs.declared.Line.{Line}
+use Rattle.lines.specs.declared.Line.the-variants as L
+use Rattle.lines.specs.Lines.{frameText, fieldText, endText, textOf}
+
+frame-size : (n : ℕ) (v : Values) → length (frameText n v) ≤ 204
+unfolding frameText
+frame-size n v =
+    simp length-append
+    (omega (arith, dec-size n, dec-size (v .sample), dec-size (v .ms), dec-size (v .active), dec-size (v .births), dec-size (v .dropped), hex-size 16 (v .hash), hex-size 8 (v .activity)))
+
+field-size : (n : ℕ) (w : List ℕ) (r : Refusal) → length w ≤ 9 → length (fieldText n w r) ≤ 204
+unfolding fieldText
+field-size n w r h = simp length-append (omega (arith, dec-size n, dec-size (numberOf r)))
+
+end-size : (n : ℕ) → length (endText n) ≤ 204
+unfolding endText
+end-size n = simp length-append (omega (arith, dec-size n))
+
+pub line-size : (l : Line) → length (textOf l) ≤ 204
+line-size L.Nothing = omega arith
+line-size (L.Frame n v) = frame-size n v
+line-size (L.Refused n r) = field-size n (ascii " refused ") r (omega arith)
+line-size (L.Bad n r) = field-size n (ascii " bad ") r (omega arith)
+line-size (L.End n) = end-size n

@@ -1,0 +1,4 @@
+pub mod Turns
+pub mod Printed
+pub mod Listed
+pub mod Ended

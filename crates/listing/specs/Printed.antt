@@ -1,0 +1,22 @@
+-- What a whole script prints. Definitions only.
+use Prim.Native.Nat.{ℕ}
+use mathlib.Core.Bool.{cond}
+use mathlib.Core.List.{List, [], _∷_, map}
+use lib.ListN.{length}
+use lib.Dec.{leb}
+use Rattle.refusals.specs.declared.Refusal.the-variants.{Script}
+use Rattle.lines.specs.declared.Line.{Line}
+use Rattle.lines.specs.declared.Line.the-variants as L
+use Rattle.lines.specs.Lines.{textAll}
+use Rattle.listing.specs.declared.Turn.{Turn}
+use Rattle.listing.specs.Turns.{turnsOf}
+
+abbrev pub linesOf : List Turn → List Line
+linesOf ts = map (λ (t : Turn). t .line) ts
+
+-- a script of lawful size prints the lines of its turns; a longer one is not run
+abbrev pub lines : List ℕ → List Line
+lines s = cond (leb (length s) 60000) (linesOf (turnsOf s)) (L.Bad 0 Script ∷ [])
+
+unfoldable pub printed : List ℕ → List ℕ
+printed s = textAll (lines s)

@@ -1,0 +1,76 @@
+-- `body_of` meets its contract: the tests in order.
+use borrow.Author.Tests.{eq-eqb, ne-eqb, le-leb, lt-leb}
+use Rattle.script.specs.Field.{bodyOf}
+use Rattle.script.proofs.Part.{rest}
+use borrow.Author.Needs.{needs}
+use Rattle.script.proofs.body.body_of.Statement.{statement}
+use Rattle.script.proofs.body.body_of.Tie as tie
+
+length-of-requires : tie.Need-length-of-requires
+length-of-requires c κs = search needs
+
+be16-at-requires : tie.Need-be16-at-requires
+be16-at-requires c κs = search needs
+
+cast-said : tie.Need-cast-said
+cast-said c = search needs
+
+returns : tie.Need-returns
+unfolding bodyOf
+returns c = rw (← c .before .be16-at .ensures, ← c .before .before .length-of .ensures, ne-eqb _ _ (c .if1 .taken))
+
+sub-if2 : tie.Need-sub-if2
+sub-if2 c = search needs
+
+returns-2 : tie.Need-returns-2
+unfolding bodyOf
+returns-2 c = rw (← c .before .before .be16-at .ensures, ← c .before .before .before .length-of .ensures, eq-eqb _ _ (c .before .if1 .left), lt-leb _ _ (c .if2 .taken))
+
+sub-v : tie.Need-sub-v
+sub-v c = search needs
+
+part-v-start : tie.Need-part-v-start
+part-v-start c = search needs
+
+part-v-end : tie.Need-part-v-end
+part-v-end c = search needs
+
+is-lawful-requires : tie.Need-is-lawful-requires
+is-lawful-requires c κs = search needs
+
+field-of-requires : tie.Need-field-of-requires
+field-of-requires c κs = search needs
+
+add-t17 : tie.Need-add-t17
+add-t17 c = search needs
+
+returns-3 : tie.Need-returns-3
+unfolding bodyOf
+returns-3 c =
+    let s = c .before .before .before .before .before .before .before .before .before .args .s .now in
+    rw (← c .before .before .before .before .before .before .be16-at .ensures, ← c .before .before .before .before .before .before .before .length-of .ensures, eq-eqb _ _ (c .before .before .before .before .before .if1 .left), le-leb _ _ (c .before .before .before .before .if2 .left), ← (rw (rest 3 s) at (c .before .before .is-lawful .ensures)), c .before .if3 .taken, rw (rest 3 s) at (c .field-of .ensures))
+
+returns-4 : tie.Need-returns-4
+unfolding bodyOf
+returns-4 c =
+    let s = c .before .before .before .before .before .before .before .before .args .s .now in
+    rw (← c .before .before .before .before .before .be16-at .ensures, ← c .before .before .before .before .before .before .length-of .ensures, eq-eqb _ _ (c .before .before .before .before .if1 .left), le-leb _ _ (c .before .before .before .if2 .left), ← (rw (rest 3 s) at (c .before .is-lawful .ensures)), c .if3 .left)
+
+pub body-of-spec : {M : Type 1} → statement M
+body-of-spec =
+    tie.close
+    (tie.spec
+    length-of-requires
+    be16-at-requires
+    cast-said
+    returns
+    sub-if2
+    returns-2
+    sub-v
+    part-v-start
+    part-v-end
+    is-lawful-requires
+    field-of-requires
+    add-t17
+    returns-3
+    returns-4)

@@ -1,0 +1,27 @@
+-- `done` meets its contract: a case for each answer.
+use borrow.Author.Needs.{needs}
+use Rattle.steps.proofs.done.Statement.{statement}
+use Rattle.steps.proofs.done.Tie as tie
+
+enum-told : tie.Need-enum-told
+enum-told c = search needs
+
+quiet-requires : tie.Need-quiet-requires
+quiet-requires c κs = search needs
+
+enum-known-answer : tie.Need-enum-known-answer
+enum-known-answer c = search needs
+
+refused-requires : tie.Need-refused-requires
+refused-requires c κs = search needs
+
+returns : tie.Need-returns
+returns c = rw (c .before .enum-told .given .1, c .quiet .ensures)
+
+returns-2 : tie.Need-returns-2
+returns-2 c = rw (c .before .before .answer .given .1, c .refused .ensures)
+
+pub done-spec : {M : Type 1} → statement M
+done-spec =
+    tie.close
+    (tie.spec enum-told quiet-requires enum-known-answer refused-requires returns returns-2)

@@ -1,0 +1,209 @@
+// What one field of a script does to the run.
+ghost use mathlib.Core.Path.{_≡_};
+ghost use Rattle.engine.specs.Calls.{setSourceOf};
+ghost use Rattle.engine.specs.Triggers.{reservedOf};
+ghost use Rattle.steps.specs.Steps as Steps;
+ghost use Rattle.steps.specs.Steps.{withEngine, quietOf, refusedOf, doneOf, firedOf, millisecondsOf, valuesOf, shownOf, framedOf, sourceOf, stepOf};
+use state::Done;
+use state::Engine;
+use engine::Outcome;
+use engine::Triggered;
+use frame::Framed;
+use refusals::Answer;
+use refusals::Refusal;
+use script::Field;
+use sources::Source;
+use windows::Frame;
+
+// The engine, and the last frame that it accepted, empty before the first.
+pub struct Run {
+    pub engine: Engine,
+    pub frame: Frame,
+}
+
+// What the line of an accepted frame says, after the frame.
+pub struct Values {
+    pub sample: u64,
+    pub ms: u64,
+    pub active: u64,
+    pub births: u64,
+    pub dropped: u64,
+    pub hash: u64,
+    pub activity: u32,
+}
+
+// What a field comes to: nothing to print, a refusal, an accepted frame.
+pub enum Reply {
+    Quiet,
+    Refused(Refusal),
+    Framed(Values),
+}
+
+pub struct Stepped {
+    pub run: Run,
+    pub reply: Reply,
+}
+
+// Before the first field; the rate replaces the engine.
+pub fn fresh() -> Run
+    ensures { λ r. ⌜ r ≡ Steps.fresh ⌝ }
+{
+    let made = engine::new_engine(48000.0);
+    let engine = made.engine;
+    Run {
+        engine,
+        frame: windows::empty_frame(),
+    }
+}
+
+fn with_engine(run: Run, engine: Engine) -> Run
+    ensures { λ r. ⌜ r ≡ withEngine run engine ⌝ }
+{
+    let frame = run.frame;
+    Run { engine, frame }
+}
+
+fn quiet(run: Run, engine: Engine) -> Stepped
+    ensures { λ r. ⌜ r ≡ quietOf run engine ⌝ }
+{
+    Stepped {
+        run: with_engine(run, engine),
+        reply: Reply::Quiet,
+    }
+}
+
+fn refused(run: Run, engine: Engine, refusal: Refusal) -> Stepped
+    ensures { λ r. ⌜ r ≡ refusedOf run engine refusal ⌝ }
+{
+    Stepped {
+        run: with_engine(run, engine),
+        reply: Reply::Refused(refusal),
+    }
+}
+
+fn done(run: Run, done: Done) -> Stepped
+    ensures { λ r. ⌜ r ≡ doneOf run done ⌝ }
+{
+    let engine = done.engine;
+    let answer = done.answer;
+    match answer {
+        Answer::Taken => quiet(run, engine),
+        Answer::Refused(refusal) => refused(run, engine, refusal),
+    }
+}
+
+// Born, not eligible and dropped print nothing.
+fn triggered(run: Run, t: Triggered) -> Stepped
+    ensures { λ r. ⌜ r ≡ firedOf run t ⌝ }
+{
+    let engine = t.engine;
+    let outcome = t.outcome;
+    match outcome {
+        Outcome::Born => quiet(run, engine),
+        Outcome::NotEligible => quiet(run, engine),
+        Outcome::Dropped => quiet(run, engine),
+        Outcome::Refused(refusal) => refused(run, engine, refusal),
+    }
+}
+
+// Samples * 1000 / whole part of the rate, rounded down.
+fn milliseconds(samples: u64, rate: f64) -> u64
+    ensures { λ r. ⌜ r ≡ millisecondsOf samples rate ⌝ }
+{
+    let whole = floats::f64_to_u64(rate);
+    if whole == 0 {
+        return 0;
+    }
+    floats::wrapping_mul(samples, 1000) / whole
+}
+
+fn values_of(engine: Engine, activity: f32) -> Values
+    ensures { λ r. ⌜ r ≡ valuesOf engine activity ⌝ }
+{
+    let sample = engine::elapsed_samples(engine);
+    Values {
+        sample,
+        ms: milliseconds(sample, engine.prepared.sample_rate),
+        active: engine::active_count(engine) as u64,
+        births: engine.tally.births,
+        dropped: engine.tally.dropped,
+        hash: engine.tally.decision_hash,
+        activity: floats::bits32(activity),
+    }
+}
+
+fn shown(engine: Engine, frame: Frame) -> Stepped
+    ensures { λ r. ⌜ r ≡ shownOf engine frame ⌝ }
+{
+    let values = values_of(engine, frame.activity);
+    let run = Run { engine, frame };
+    Stepped {
+        run,
+        reply: Reply::Framed(values),
+    }
+}
+
+fn framed(run: Run, framed: Framed) -> Stepped
+    ensures { λ r. ⌜ r ≡ framedOf run framed ⌝ }
+{
+    let engine = framed.engine;
+    let frame = framed.frame;
+    let answer = framed.answer;
+    match answer {
+        Answer::Taken => shown(engine, frame),
+        Answer::Refused(refusal) => refused(run, engine, refusal),
+    }
+}
+
+fn source(run: Run, slot: u16, frequency: f32, strength: f32, eligible: bool) -> Stepped
+    ensures { λ r. ⌜ r ≡ doneOf run (setSourceOf (run .engine) slot (sourceOf frequency strength eligible)) ⌝ }
+{
+    let source = Source {
+        frequency_hz: frequency,
+        strength,
+        eligible,
+    };
+    done(run, engine::set_source(run.engine, slot as usize, source))
+}
+
+fn reserve(run: Run) -> Stepped
+    ensures { λ r. ⌜ r ≡ quietOf run (reservedOf (run .engine) .engine) ⌝ }
+{
+    let reserved = engine::reserve_trigger(run.engine);
+    let engine = reserved.engine;
+    quiet(run, engine)
+}
+
+// A rate makes the engine anew.
+pub fn step(run: Run, field: Field) -> Stepped
+    ensures { λ r. ⌜ r ≡ stepOf run field ⌝ }
+{
+    match field {
+        Field::Rate(rate) => done(run, engine::new_engine(rate)),
+        Field::Configure(config) => done(run, engine::configure(run.engine, config)),
+        Field::Source(slot, frequency_hz, strength, eligible) => {
+            source(run, slot, frequency_hz, strength, eligible)
+        }
+        Field::Retire(slot) => done(run, engine::retire_source(run.engine, slot as usize)),
+        Field::Release(slot) => done(run, engine::release_source(run.engine, slot as usize)),
+        Field::Trigger(slot) => triggered(run, engine::trigger(run.engine, slot as usize)),
+        Field::Seek(cycles) => quiet(run, engine::seek(run.engine, cycles)),
+        Field::Advance(samples) => done(run, engine::advance(run.engine, samples as u64)),
+        Field::Frame(bin_hz, elapsed) => framed(
+            run,
+            frame::take_frame(run.engine, bin_hz, elapsed),
+        ),
+        Field::NoteInput(present) => quiet(
+            run,
+            engine::set_note_input_present(run.engine, present),
+        ),
+        Field::Reset => quiet(run, engine::reset(run.engine)),
+        Field::Reserve => reserve(run),
+        Field::ReservedTrigger(slot, index) => {
+            triggered(
+                run,
+                engine::trigger_reserved(run.engine, slot as usize, index),
+            )
+        }
+    }
+}
