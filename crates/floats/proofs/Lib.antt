@@ -40,4 +40,5 @@ pub mod Ends
 pub mod Wholes
 pub mod Gap
 pub mod Units
+pub mod Grid
 pub mod Unit

@@ -23,7 +23,7 @@ use Rattle.engine.specs.Advance.{advancedOf}
 use Rattle.engine.specs.Triggers.{triggeredOf, reservedOf, triggeredBy}
 use Rattle.pool.specs.Pool.{activeCount}
 use Rattle.frame.specs.declared.Framed.{Framed}
-use Rattle.frame.specs.Calls.{takeFrameOf}
+use Rattle.frame.specs.Call.{framedOf as takeFrameOf}
 use Rattle.steps.specs.declared.Run.{Run}
 use Rattle.steps.specs.declared.Values.{Values}
 use Rattle.steps.specs.declared.Reply.{Reply}
