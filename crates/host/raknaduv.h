@@ -3,9 +3,6 @@
 #ifndef RAKNADUV_H
 #define RAKNADUV_H
 
-#include <stddef.h>
-#include <stdint.h>
-
 #ifdef __cplusplus
 extern "C" {
 #endif
@@ -17,12 +14,6 @@ double rk_exp64(double x); /* e to the x */
 float rk_pow8(float x);   /* 8 to the x */
 float rk_pow10(float x);  /* 10 to the x */
 float rk_sqrt(float x);   /* square root, correctly rounded */
-
-/* Runs an event script and writes its last accepted frame: 192 windows of centre, radius and amplitude,
- * then the activity, as big-endian floats; zeros where the script has no frame. Answers 0, or 5 where
- * out is not 2,308 bytes, 12 where the script is above 60,000, or the number that the script goes bad
- * with; out is then left as it was. */
-uint32_t rk_script(const uint8_t *script, size_t script_bytes, uint8_t *out, size_t out_bytes);
 
 #ifdef __cplusplus
 }

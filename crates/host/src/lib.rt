@@ -1,10 +1,8 @@
-// What a host in Rust or C may call: the elementary functions, by numbers, and a script, by bytes.
+// What a host in Rust or C may call: the elementary functions, by numbers.
 ghost use Rattle.elementary.specs.Exp64 as Exp64;
 ghost use Rattle.elementary.specs.Log2.{log2Of};
 ghost use Rattle.elementary.specs.Power as Power;
 ghost use Rattle.elementary.specs.Sqrt.{sqrtOf};
-ghost use Rattle.entry.specs.Entry.{entryAnswer, entryBytes};
-ghost use Rattle.refusals.specs.Numbers.{answerOf};
 ghost use mathlib.Core.Path.{_≡_};
 
 #[no_mangle]
@@ -54,13 +52,4 @@ pub extern "C" fn rk_sqrt(x: f32) -> f32
     ensures { λ r. ⌜ r ≡ sqrtOf x ⌝ }
 {
     elementary::sqrt(x)
-}
-
-// 0, or 5, 12 or the bad number; `out` changes only where it is 0.
-#[no_mangle]
-pub extern "C" fn rk_script(script: &[u8], out: &mut [u8]) -> u32
-    ensures { λ r. ⌜ (r ≡ answerOf (entryAnswer (now (script .entry)) (now (out .entry)))) × (now (out .exit) ≡ entryBytes (now (script .entry)) (now (out .entry))) ⌝ }
-{
-    let answer = entry::last_frame(script, out);
-    refusals::answer_number(answer) as u32
 }
