@@ -4,11 +4,11 @@ ghost use mathlib.Core.List.{map};
 ghost use Rattle.frame.specs.Frame.{secondsOf, retirementOf, dueOf, sweepOne, powerOf, envelopeOf, amplitudeOf, nothing, shownOf, radiusOf, windowOf, windowsOf, activityOf, accepted};
 ghost use Rattle.frame.specs.Call.{renewedOf, takenOf, refusedOf, framedOf};
 ghost use Rattle.windows.specs.Opening.{none};
-use state::Engine;
 use pool::Particle;
 use pool::Retired;
 use refusals::Answer;
 use refusals::Refusal;
+use state::Engine;
 use windows::Frame;
 use windows::Window;
 

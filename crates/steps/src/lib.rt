@@ -4,8 +4,6 @@ ghost use Rattle.engine.specs.Calls.{setSourceOf};
 ghost use Rattle.engine.specs.Triggers.{reservedOf};
 ghost use Rattle.steps.specs.Steps as Steps;
 ghost use Rattle.steps.specs.Steps.{withEngine, quietOf, refusedOf, doneOf, firedOf, millisecondsOf, valuesOf, shownOf, framedOf, sourceOf, stepOf};
-use state::Done;
-use state::Engine;
 use engine::Outcome;
 use engine::Triggered;
 use frame::Framed;
@@ -13,6 +11,8 @@ use refusals::Answer;
 use refusals::Refusal;
 use script::Field;
 use sources::Source;
+use state::Done;
+use state::Engine;
 use windows::Frame;
 
 // The engine, and the last frame that it accepted, empty before the first.
