@@ -3,23 +3,24 @@ use Prim.Native.Nat.{ℕ, suc, _+_, _-_, _≤_}
 use native.Mathlib.Nat.{le-refl, le-trans}
 use native.Mathlib.Omega.{arith}
 use mathlib.Core.Path.{_≡_, refl, sym, ap, _∙_, subst}
-use mathlib.Core.Bool.{Bool, true, false}
+use mathlib.Core.Logic.{_⊎_, inl, inr}
+use mathlib.Core.Bool.{Bool, true, false, true≢false}
 use mathlib.Core.List.{List, [], _∷_}
 use borrow.Author.Tests.{ltb-true, eqb-false, ne-eqb}
 use lib.Dec.{ltb, eqb}
-use lib.ListN.{length, set, length-set}
+use lib.ListN.{length, getD, set, length-set}
 use lib.Ieee.{Float}
 use Rattle.lists.specs.Pick.{pick, either, by-case}
 use Rattle.pool.specs.declared.Particle.{Particle}
 use Rattle.sources.specs.declared.Source.{Source}
-use Rattle.sources.specs.Sources.{nthFrom, alternativesOf, choiceOf, chosenOf}
+use Rattle.sources.specs.Sources.{isEligible, isAlternative, nthFrom, alternativesOf, choiceOf, chosenOf}
 use Rattle.state.specs.declared.Engine.{Engine}
 use Rattle.state.specs.declared.Next.{Next}
 use Rattle.state.specs.declared.Tally.{Tally}
-use Rattle.state.specs.State.{grown, withNext, withParticles, withTally}
+use Rattle.state.specs.State.{grown, withNext, withParticles, withTally, pastSource}
 use Rattle.delivery.specs.Birth.{chosenFor, withLast, droppedOne, triedOne, bornOne, newbornFor, settledAt, admittedOf, isBarred, attemptedOf, bornOf}
 use Rattle.runs.proofs.Every.{Every, every-set, in-case}
-use Rattle.runs.proofs.Sound.{Sound, Held, engine-newborn}
+use Rattle.runs.proofs.Sound.{Sound, Held, Sounding, engine-newborn}
 
 -- ---- the slot
 nth-most : (last i : ℕ) (ss : List Source) (n : ℕ) → nthFrom last i ss n ≤ i + length ss
@@ -40,6 +41,40 @@ unfolding chosenFor
 slot-most e index own s =
     in-case (λ (k : ℕ). k ≤ 256) (ltb own 256) own _ (λ q. let h = ltb-true own 256 q in omega arith) (λ q. chosen-most _ _ _ (s .slots))
 
+-- ---- a slot that is chosen may sound
+abbrev Found : ℕ → ℕ → List Source → Type 0
+Found k i ss = (k ≡ i + length ss) ⊎ ((j : ℕ) × (k ≡ i + j) × (isEligible (getD ss j pastSource) ≡ true))
+
+further : (k i : ℕ) (s : Source) (ss : List Source) → Found k (suc i) ss → Found k i (s ∷ ss)
+further k i s ss (inl e) = inl (omega arith)
+further k i s ss (inr (j, e, h)) = inr (suc j, omega arith, h)
+
+second : (t b : Bool) → pick t false b ≡ true → b ≡ true
+unfolding pick
+second true b h = absurd (true≢false (sym h))
+second false b h = h
+
+found : (last i : ℕ) (ss : List Source) (n : ℕ) → Found (nthFrom last i ss n) i ss
+unfolding nthFrom isAlternative
+found last i [] n = inl (omega arith)
+found last i (s ∷ ss) n =
+    in-case (λ (k : ℕ). Found k i (s ∷ ss)) (isAlternative last i s) _ _
+    (λ a. in-case (λ (k : ℕ). Found k i (s ∷ ss)) (eqb n 0) _ _ (λ t. inr (0, omega arith, second (eqb i last) (isEligible s) a)) (λ t. further _ i s ss (found last (suc i) ss (n - 1))))
+    (λ a. further _ i s ss (found last (suc i) ss n))
+
+sounding : (k : ℕ) (ss : List Source) → length ss ≡ 256 → Found k 0 ss → Sounding ss k
+sounding k ss l (inl e) h = absurd (omega arith)
+sounding k ss l (inr (j, e, f)) h = subst (λ (m : ℕ). isEligible (getD ss m pastSource) ≡ true) (omega arith) f
+
+pub none-sounding : (ss : List Source) → Sounding ss 256
+none-sounding ss h = absurd (omega arith)
+
+slot-sounding : (e : Engine) (index own : ℕ) → Sound e → Sounding (e .sources) own → Sounding (e .sources) (chosenFor e index own)
+unfolding chosenFor chosenOf
+slot-sounding e index own s h =
+    either (Sounding (e .sources)) _ _ _ h
+    (either (Sounding (e .sources)) _ _ _ (sounding _ (e .sources) (s .slots) (found 256 0 (e .sources) 0)) (sounding _ (e .sources) (s .slots) (found (e .next .«last_source») 0 (e .sources) _)))
+
 -- ---- the counters and the choice
 pub sound-next : (e : Engine) (n : Next) → Sound e → n .«last_source» ≤ 256 → Sound (withNext e n)
 sound-next e n s h =
@@ -51,6 +86,8 @@ sound-next e n s h =
       time = s .time;
       places = s .places;
       slots = s .slots;
+      formed = s .formed;
+      active = s .active;
       held = s .held;
     }
 
@@ -64,6 +101,8 @@ sound-tally e t s h =
       time = s .time;
       places = s .places;
       slots = s .slots;
+      formed = s .formed;
+      active = s .active;
       held = s .held;
     }
 
@@ -77,33 +116,36 @@ sound-particles e ps s l h =
       time = s .time;
       places = l;
       slots = s .slots;
+      formed = s .formed;
+      active = s .active;
       held = h;
     }
 
 -- ---- the birth
-sound-admitted : (e : Engine) (index slot : ℕ) → Sound e → slot ≤ 256 → Sound (admittedOf e index slot)
+sound-admitted : (e : Engine) (index slot : ℕ) → Sound e → slot ≤ 256 → Sounding (e .sources) slot → Sound (admittedOf e index slot)
 unfolding admittedOf bornOne
-sound-admitted e index slot s h =
+sound-admitted e index slot s h o =
     either Sound _ _ _
     (sound-tally (withParticles e (set (e .particles) _ (newbornFor e index slot))) _
     (sound-particles e (set (e .particles) _ (newbornFor e index slot)) s (length-set (e .particles) _ _ ∙ s .places)
-    (every-set (Held (e .clock .sample)) (e .particles) _ (newbornFor e index slot) (λ a. engine-newborn e index slot s h) (s .held)))
+    (every-set (Held (e .clock .sample)) (e .particles) _ (newbornFor e index slot) (λ a. engine-newborn e index slot s h o) (s .held)))
     (s .tried))
     (sound-tally e _ s (s .tried))
 
 one-more : (n : ℕ) → n ≤ 64 → (n ≡ 64 → ⊥) → grown n ≤ 64
 one-more n h d = omega arith
 
-sound-attempted : (e : Engine) (index slot : ℕ) → Sound e → slot ≤ 256 → Sound (attemptedOf e index slot)
+sound-attempted : (e : Engine) (index slot : ℕ) → Sound e → slot ≤ 256 → Sounding (e .sources) slot → Sound (attemptedOf e index slot)
 unfolding attemptedOf
-sound-attempted e index slot s h =
+sound-attempted e index slot s h o =
     in-case Sound (eqb (e .tally .attempts) 64) _ _ (λ q. sound-tally e _ s (s .tried))
     (λ q.
     let t = sound-tally e (triedOne (e .tally)) s (one-more (e .tally .attempts) (s .tried) (eqb-false (e .tally .attempts) 64 q)) in
-    either Sound _ _ _ t (sound-admitted (withTally e (triedOne (e .tally))) index slot t h))
+    either Sound _ _ _ t (sound-admitted (withTally e (triedOne (e .tally))) index slot t h o))
 
-pub sound-born : (e : Engine) (index own : ℕ) → Sound e → Sound (bornOf e index own)
+pub sound-born : (e : Engine) (index own : ℕ) → Sound e → Sounding (e .sources) own → Sound (bornOf e index own)
 unfolding bornOf
-sound-born e index own s =
+sound-born e index own s o =
     let h = slot-most e index own s in
     sound-attempted (withNext e (withLast (e .next) (chosenFor e index own))) index (chosenFor e index own) (sound-next e (withLast (e .next) (chosenFor e index own)) s h) h
+    (slot-sounding e index own s o)

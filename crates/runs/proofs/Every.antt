@@ -30,6 +30,12 @@ module _ {A : Type 0} (P : A → Type 0) where
   every-replicate zero x p = tt
   every-replicate (suc n) x p = (p, every-replicate n x p)
 
+  -- past the end too, where it holds of what stands there
+  pub every-getD : (xs : List A) (i : ℕ) (d : A) → P d → Every P xs → P (getD xs i d)
+  every-getD [] i d p a = p
+  every-getD (x ∷ xs) zero d p a = a .0
+  every-getD (x ∷ xs) (suc i) d p a = every-getD xs i d p (a .1)
+
   pub every-at : (xs : List A) (i : ℕ) (d : A) → i < length xs → Every P xs → P (getD xs i d)
   every-at [] i d h a = absurd (not-suc-le-zero h)
   every-at (x ∷ xs) zero d h a = a .0

@@ -1,8 +1,11 @@
 pub mod Births
 pub mod Joins
 pub mod Every
+pub mod Fitting
+pub mod Voices
 pub mod Sound
 pub mod Chosen
 pub mod Steps
 pub mod Stays
+pub mod Frames
 pub mod Performed

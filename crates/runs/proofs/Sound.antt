@@ -12,9 +12,7 @@ use lib.ListN.{length, getD}
 use lib.Ieee.{Float, fin, inf, nan, Format, binary32, fits, lt, le}
 use lib.Ieee.Scale.{finite}
 use Rattle.lists.specs.Pick.{pick, either, by-case}
-use Rattle.floats.specs.Convert.{convert}
 use Rattle.floats.proofs.Rising.{nought}
-use Rattle.floats.proofs.Values.{own-round}
 use Rattle.births.specs.declared.Voice.{Voice}
 use Rattle.births.specs.Births.{rate32, maxHzOf, registerBy, partialsBy, freeVoiceOf, sourceVoiceOf, newbornOf}
 use Rattle.pitch.specs.Partials.{partialsOf}
@@ -28,12 +26,20 @@ use Rattle.settings.specs.declared.Shape.the-variants.{Sprinkle, Cloud}
 use Rattle.settings.specs.Envelope.{envelopeOf}
 use Rattle.settings.specs.Mending.{maxHop, lawfulRate, mendedOf}
 use Rattle.settings.proofs.Lifetimes as lifetimes
-use Rattle.settings.proofs.Lifetimes.{Formed, ten, envelope-sound}
+use Rattle.settings.proofs.Lifetimes.{ten, envelope-sound}
+use Rattle.sources.specs.declared.Source.{Source}
+use Rattle.sources.specs.Sources.{isEligible}
+use Rattle.frame.proofs.Newborn.{Voiced, newborn-fair}
+use Rattle.frame.proofs.Windowed.{Fair}
+use Rattle.floats.proofs.Unit.{Unit}
 use Rattle.state.specs.declared.Engine.{Engine}
+use Rattle.state.specs.State.{pastSource}
 use Rattle.state.specs.declared.Prepared.{Prepared}
 use Rattle.delivery.specs.Birth.{voiceFor, newbornFor}
 use Rattle.state.specs.Make.{preparedOf}
-use Rattle.runs.proofs.Every.{Every, in-case}
+use Rattle.runs.proofs.Every.{Every, every-getD, in-case}
+use Rattle.runs.proofs.Fitting.{own-convert}
+use Rattle.runs.proofs.Voices.{Formed, source-voiced, free-voiced}
 
 -- ---- the terms
 -- one of three harmonics, or none
@@ -49,6 +55,7 @@ pub record Fit (now : ℕ) (p : Particle) : Type 0 where
   pub most : T (le (p .lifetime) ten)
   pub slot : p .source ≤ 256
   pub harmonics : Harmonics (p .partials)
+  pub fair : Fair p
 
 abbrev pub Held : ℕ → Particle → Type 0
 Held now p = p .active ≡ true → Fit now p
@@ -56,7 +63,7 @@ Held now p = p .active ≡ true → Fit now p
 -- settings that `configure` has mended, with a lawful hop
 pub record Settled (c : Config) : Type 0 where
   pub asked : Config
-  pub formed : Formed asked
+  pub formed : lifetimes.Formed asked
   pub hop : asked .«hop_samples» ≤ maxHop
   pub is : c ≡ mendedOf asked
 
@@ -74,6 +81,8 @@ pub record Sound (e : Engine) : Type 0 where
   pub time : e .clock .sample ≤ 2 ^ 40
   pub places : length (e .particles) ≡ 64
   pub slots : length (e .sources) ≡ 256
+  pub formed : Every Formed (e .sources)
+  pub active : Unit (e .activity)
   pub held : Every (Held (e .clock .sample)) (e .particles)
 
 -- ---- time goes on
@@ -87,15 +96,10 @@ fit-later now later h p f a =
       most = s .most;
       slot = s .slot;
       harmonics = s .harmonics;
+      fair = s .fair;
     }
 
 -- ---- a newborn
-pub own-convert : (f : Format) (x : Float) → T (fits f x) → convert f x ≡ x
-unfolding convert
-own-convert f nan h = refl
-own-convert f (inf s) h = refl
-own-convert f (fin s m e) h = own-round f s m e h
-
 abbrev isAt : Retired → Bool
 isAt Not = false
 isAt (At t) = true
@@ -121,10 +125,11 @@ partials-harmonics Sprinkle index weights limit hz octave maxHz = picked-harmoni
 partials-harmonics Cloud index weights limit hz octave maxHz = one-harmonic
 
 pub newborn-fit : (index : ℕ) (voice : Voice) (config : Config) (rate : Float) (sample : ℕ) (weights : List Float)
-    → Settled config → T (fits binary32 rate) → T (lawfulRate rate) → voice .slot ≤ 256 → Fit sample (newbornOf index voice config rate sample weights)
+    → Settled config → T (fits binary32 rate) → T (lawfulRate rate) → voice .slot ≤ 256 → Voiced voice → Fit sample (newbornOf index voice config rate sample weights)
 unfolding newbornOf
-newborn-fit index voice config rate sample weights s f l v =
-    let e : envelopeOf config index (rate32 rate) ≡ envelopeOf (mendedOf (s .asked)) index rate = ap (λ (c : Config). envelopeOf c index (rate32 rate)) (s .is) ∙ ap (envelopeOf (mendedOf (s .asked)) index) (own-convert binary32 rate f) in
+newborn-fit index voice config rate sample weights s f l v o =
+    let same = own-convert binary32 rate f in
+    let e : envelopeOf config index (rate32 rate) ≡ envelopeOf (mendedOf (s .asked)) index rate = ap (λ (c : Config). envelopeOf c index (rate32 rate)) (s .is) ∙ ap (envelopeOf (mendedOf (s .asked)) index) same in
     let w = subst lifetimes.Sound (sym e) (envelope-sound (s .asked) index rate (s .formed) (s .hop) l) in
     record {
       born = le-refl sample;
@@ -133,14 +138,30 @@ newborn-fit index voice config rate sample weights s f l v =
       most = w .most;
       slot = v;
       harmonics = partials-harmonics _ _ _ _ _ _ _;
+      fair = subst (λ (c : Config). Fair (newbornOf index voice c rate sample weights)) (sym (s .is)) (newborn-fair (s .asked) (s .formed) (s .hop) index voice o rate (subst (λ (x : Float). T (lawfulRate x)) (sym same) l) sample weights);
     }
 
 voice-slot : (e : Engine) (index slot : ℕ) → slot ≤ 256 → voiceFor e index slot .slot ≤ 256
 unfolding voiceFor sourceVoiceOf freeVoiceOf
 voice-slot e index slot h = either (λ (v : Voice). v .slot ≤ 256) _ _ _ h (le-refl 256)
 
-pub engine-newborn : (e : Engine) (index slot : ℕ) → Sound e → slot ≤ 256 → Fit (e .clock .sample) (newbornFor e index slot)
+-- the slot, where it is one, holds a source that may sound
+abbrev pub Sounding : List Source → ℕ → Type 0
+Sounding ss slot = slot < 256 → isEligible (getD ss slot pastSource) ≡ true
+
+pub past-formed : Formed pastSource
+unfolding fits
+past-formed = record { hz = tt; strength = tt }
+
+voice-voiced : (e : Engine) (index slot : ℕ) → Sound e → Sounding (e .sources) slot → Voiced (voiceFor e index slot)
+unfolding voiceFor
+voice-voiced e index slot s h =
+    in-case Voiced (ltb slot 256) _ _
+    (λ q. source-voiced slot (getD (e .sources) slot pastSource) (h (ltb-true slot 256 q)) (every-getD Formed (e .sources) slot pastSource past-formed (s .formed)))
+    (λ q. free-voiced (e .config .shape) index (e .clock .phase) (e .prepared .«sample_rate») (s .made .single) (s .made .lawful))
+
+pub engine-newborn : (e : Engine) (index slot : ℕ) → Sound e → slot ≤ 256 → Sounding (e .sources) slot → Fit (e .clock .sample) (newbornFor e index slot)
 unfolding newbornFor
-engine-newborn e index slot s h =
+engine-newborn e index slot s h o =
     newborn-fit index (voiceFor e index slot) (e .config) (e .prepared .«sample_rate») (e .clock .sample) (e .«partial_weights»)
-    (s .settled) (s .made .single) (s .made .lawful) (voice-slot e index slot h)
+    (s .settled) (s .made .single) (s .made .lawful) (voice-slot e index slot h) (voice-voiced e index slot s o)

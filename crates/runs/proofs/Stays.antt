@@ -7,9 +7,11 @@ use mathlib.Core.Bool.{Bool, true, false, _&&_, true≢false}
 use mathlib.Core.List.{List, map}
 use borrow.Author.Tests.{ltb-true, ltb-false}
 use lib.Dec.{T, ltb, lit≤}
-use lib.ListN.{length, length-map, length-set}
+use lib.Bits.{bitXor}
+use lib.ListN.{length, getD, length-map, length-set}
 use lib.Ieee.{Float, binary32, fits, ofBits, ofFields, rem, add, sum, round, le, lt, eq, odd}
 use lib.Ieee.Bits.{ofBits-fits}
+use lib.Ieee.Scale.{finite}
 use Rattle.lists.specs.Pick.{pick, either, by-case}
 use Rattle.floats.specs.Names.{f32}
 use Rattle.floats.specs.Choose.{clamp, abs}
@@ -22,19 +24,24 @@ use Rattle.refusals.specs.declared.Answer.{Answer}
 use Rattle.refusals.specs.declared.Answer.the-variants.{Taken, Refused}
 use Rattle.settings.specs.declared.Config.{Config}
 use Rattle.settings.specs.Mending.{maxHop, defaultConfig, checkedOf, lawfulRate, finiteOr, heldTo, partialsOf, phaseOf, mendedOf}
-use Rattle.settings.proofs.Lifetimes.{Formed}
+use Rattle.settings.proofs.Lifetimes as lifetimes
 use Rattle.sources.specs.declared.Source.{Source}
+use Rattle.sources.specs.Sources.{noSource, isPitched, releasedOf}
+use Rattle.frame.proofs.Windowed.{Fair}
+use Rattle.floats.proofs.Rising.{nought}
+use Rattle.floats.proofs.Unit.{nought-unit}
 use Rattle.state.specs.declared.Done.{Done}
 use Rattle.state.specs.declared.Engine.{Engine}
 use Rattle.state.specs.declared.Prepared.{Prepared}
 use Rattle.engine.specs.declared.Triggered.{Triggered}
-use Rattle.state.specs.State.{withConfig, withParticles, withSources, withWeights}
+use Rattle.state.specs.State.{withConfig, withParticles, withSources, withWeights, pastSource}
 use Rattle.state.specs.Make.{preparedOf, noParticles, noSources, newOn}
 use Rattle.engine.specs.New.{newEngineOf, resetOf}
-use Rattle.engine.specs.Calls.{retiredAll, aligned, reweighed, switched, offset, restarted, configuredTo, answeredBy, configuredOf, withNotes, notesOf, withSource, placedOf, setSourceOf, retireSourceOf, releaseSourceOf, soughtNext, soughtClock, soughtOf}
-use Rattle.engine.specs.Triggers.{withIndex, reservedOf, triggeredBy, triggeredOf}
-use Rattle.runs.proofs.Every.{Every, every-map, every-replicate, in-case}
-use Rattle.runs.proofs.Sound.{Fit, Held, Settled, Made, Sound}
+use Rattle.engine.specs.Calls.{isSprinkle, retiredAll, aligned, reweighed, switched, offset, restarted, configuredTo, answeredBy, configuredOf, withNotes, notesOf, withSource, placedOf, setSourceOf, retireSourceOf, releaseSourceOf, soughtNext, soughtClock, soughtOf}
+use Rattle.engine.specs.Triggers.{withIndex, isPermitted, reservedOf, triggeredBy, triggeredOf}
+use Rattle.runs.proofs.Every.{Every, every-map, every-set, every-getD, every-replicate, in-case}
+use Rattle.runs.proofs.Sound.{Fit, Held, Settled, Made, Sound, Sounding, past-formed}
+use Rattle.runs.proofs.Voices.{Formed, both, pitched-sounds}
 use Rattle.runs.proofs.Chosen.{sound-next, sound-particles, sound-born}
 use Rattle.runs.proofs.Steps.{sound-streams, sound-clock}
 
@@ -49,6 +56,8 @@ sound-config e c s h =
       time = s .time;
       places = s .places;
       slots = s .slots;
+      formed = s .formed;
+      active = s .active;
       held = s .held;
     }
 
@@ -62,11 +71,13 @@ sound-weights e ws s =
       time = s .time;
       places = s .places;
       slots = s .slots;
+      formed = s .formed;
+      active = s .active;
       held = s .held;
     }
 
-sound-source : (e : Engine) (slot : ℕ) (x : Source) → Sound e → Sound (withSource e slot x)
-sound-source e slot x s =
+sound-source : (e : Engine) (slot : ℕ) (x : Source) → Formed x → Sound e → Sound (withSource e slot x)
+sound-source e slot x f s =
     record {
       made = s .made;
       settled = s .settled;
@@ -75,6 +86,8 @@ sound-source e slot x s =
       time = s .time;
       places = s .places;
       slots = length-set (e .sources) slot x ∙ s .slots;
+      formed = every-set Formed (e .sources) slot x f (s .formed);
+      active = s .active;
       held = s .held;
     }
 
@@ -85,6 +98,61 @@ at-of a b p = ap (λ (r : Retired). firstOf r 0) p
 first-in : (birth now : ℕ) (r : Retired) → birth ≤ now → ((t : ℕ) → r ≡ At t → (birth ≤ t) × (t ≤ now)) → (birth ≤ firstOf r now) × (firstOf r now ≤ now)
 first-in birth now Not h k = (h, le-refl now)
 first-in birth now (At t) h k = k t refl
+
+-- neither a retirement nor a new pitch that sounds makes a particle unfair
+fair-retired : (now : ℕ) (p : Particle) → Fair p → Fair (retiredOf now p)
+unfolding retiredOf
+fair-retired now p f =
+    let t = f .timed in
+    let w = f .pitched in
+    record {
+      timed =
+          record {
+            strength = t .strength;
+            attack-fits = t .attack-fits;
+            attack-above = t .attack-above;
+            attack-below = t .attack-below;
+            lifetime-finite = t .lifetime-finite;
+            lifetime-above = t .lifetime-above;
+          };
+      pitched =
+          record {
+            hz-fits = w .hz-fits;
+            hz-above = w .hz-above;
+            hz-finite = w .hz-finite;
+            octave = w .octave;
+            width-fits = w .width-fits;
+            width-above = w .width-above;
+            width-finite = w .width-finite;
+          };
+    }
+
+fair-retuned : (hz : Float) (p : Particle) → T (fits binary32 hz) → T (lt nought hz) × T (finite hz) → Fair p → Fair (retunedOf hz p)
+unfolding retunedOf
+fair-retuned hz p h a f =
+    let t = f .timed in
+    let w = f .pitched in
+    record {
+      timed =
+          record {
+            strength = t .strength;
+            attack-fits = t .attack-fits;
+            attack-above = t .attack-above;
+            attack-below = t .attack-below;
+            lifetime-finite = t .lifetime-finite;
+            lifetime-above = t .lifetime-above;
+          };
+      pitched =
+          record {
+            hz-fits = h;
+            hz-above = a .0;
+            hz-finite = a .1;
+            octave = w .octave;
+            width-fits = w .width-fits;
+            width-above = w .width-above;
+            width-finite = w .width-finite;
+          };
+    }
 
 fit-retired : (now : ℕ) (p : Particle) → Fit now p → Fit now (retiredOf now p)
 unfolding retiredOf
@@ -97,6 +165,7 @@ fit-retired now p f =
       most = f .most;
       slot = le-refl 256;
       harmonics = f .harmonics;
+      fair = fair-retired now p (f .fair);
     }
 
 retired-active : (now : ℕ) (p : Particle) → retiredOf now p .active ≡ p .active
@@ -115,15 +184,15 @@ held-retire-bound : (slot now : ℕ) (p : Particle) → Held now p → Held now 
 unfolding retireBoundOne
 held-retire-bound slot now p f = either (Held now) _ _ _ (either (Held now) _ _ _ (held-retired now p f) f) f
 
-held-retuned : (now : ℕ) (hz : Float) (p : Particle) → Held now p → Held now (retunedOf hz p)
+held-retuned : (now : ℕ) (hz : Float) (p : Particle) → T (fits binary32 hz) → T (lt nought hz) × T (finite hz) → Held now p → Held now (retunedOf hz p)
 unfolding retunedOf
-held-retuned now hz p f a =
+held-retuned now hz p h k f a =
     let s = f a in
-    record { born = s .born; retired = s .retired; above = s .above; most = s .most; slot = s .slot; harmonics = s .harmonics }
+    record { born = s .born; retired = s .retired; above = s .above; most = s .most; slot = s .slot; harmonics = s .harmonics; fair = fair-retuned hz p h k (s .fair) }
 
-held-retune-one : (slot now : ℕ) (hz : Float) (p : Particle) → Held now p → Held now (retuneOne slot hz p)
+held-retune-one : (slot now : ℕ) (hz : Float) → T (fits binary32 hz) → T (lt nought hz) × T (finite hz) → (p : Particle) → Held now p → Held now (retuneOne slot hz p)
 unfolding retuneOne
-held-retune-one slot now hz p f = either (Held now) _ _ _ (either (Held now) _ _ _ (held-retuned now hz p f) f) f
+held-retune-one slot now hz h k p f = either (Held now) _ _ _ (either (Held now) _ _ _ (held-retuned now hz p h k f) f) f
 
 -- every place by one function
 sound-mapped : (e : Engine) (g : Particle → Particle) → Sound e → ((p : Particle) → Held (e .clock .sample) p → Held (e .clock .sample) (g p)) → Sound (withParticles e (map g (e .particles)))
@@ -140,8 +209,11 @@ default-mended : defaultConfig ≡ mendedOf defaultConfig
 unfolding mendedOf heldTo finiteOr phaseOf partialsOf remEuclid clamp rem add sum round ofBits lt eq abs pick
 default-mended = refl
 
+no-source-formed : Formed noSource
+no-source-formed = record { hz = ofBits-fits binary32 0; strength = ofBits-fits binary32 0 }
+
 sound-on : (p : Prepared) → Made p → Sound (newOn p)
-unfolding newOn noParticles noSources freeParticle
+unfolding newOn noParticles noSources freeParticle ofBits
 sound-on p m =
     record {
       made = m;
@@ -151,6 +223,8 @@ sound-on p m =
       time = lit≤ tt;
       places = refl;
       slots = refl;
+      formed = every-replicate Formed 256 noSource no-source-formed;
+      active = nought-unit;
       held = every-replicate (Held 0) 64 freeParticle (λ a. absurd (true≢false (sym a)));
     }
 
@@ -186,7 +260,7 @@ sound-configured-to e c s h =
     let n = sound-config _ c o h in
     either Sound _ _ _ (sound-aligned _ n) (either Sound _ _ _ n (sound-streams _ _ n))
 
-pub sound-configured : (e : Engine) (c : Config) → Formed c → Sound e → Sound (configuredOf e c .engine)
+pub sound-configured : (e : Engine) (c : Config) → lifetimes.Formed c → Sound e → Sound (configuredOf e c .engine)
 unfolding configuredOf checkedOf
 sound-configured e c f s =
     in-case (λ (a : Answer). Sound (answeredBy a e c .engine)) (ltb maxHop (c .«hop_samples»)) _ _ (λ q. s)
@@ -197,25 +271,29 @@ pub sound-notes : (e : Engine) (present : Bool) → Sound e → Sound (notesOf e
 unfolding notesOf
 sound-notes e present s = sound-next e (withNotes (e .next) present) s (s .last)
 
-sound-placed : (e : Engine) (slot : ℕ) (x : Source) → Sound e → Sound (placedOf e slot x)
+sound-placed : (e : Engine) (slot : ℕ) (x : Source) → Formed x → Sound e → Sound (placedOf e slot x)
 unfolding placedOf
-sound-placed e slot x s =
-    either Sound _ _ _ (sound-mapped (withSource e slot x) (retuneOne slot (x .«frequency_hz»)) (sound-source e slot x s) (held-retune-one slot (e .clock .sample) (x .«frequency_hz»)))
-    (sound-source e slot x s)
+sound-placed e slot x f s =
+    let hz = x .«frequency_hz» in
+    in-case Sound (isPitched hz) _ _
+    (λ q. sound-mapped (withSource e slot x) (retuneOne slot hz) (sound-source e slot x f s) (held-retune-one slot (e .clock .sample) hz (f .hz) (pitched-sounds hz q)))
+    (λ q. sound-source e slot x f s)
 
-pub sound-set-source : (e : Engine) (slot : ℕ) (x : Source) → Sound e → Sound (setSourceOf e slot x .engine)
+pub sound-set-source : (e : Engine) (slot : ℕ) (x : Source) → Formed x → Sound e → Sound (setSourceOf e slot x .engine)
 unfolding setSourceOf
-sound-set-source e slot x s = either (λ (d : Done). Sound (d .engine)) _ _ _ (either Sound _ _ _ s (sound-placed e slot x s)) s
+sound-set-source e slot x f s = either (λ (d : Done). Sound (d .engine)) _ _ _ (either Sound _ _ _ s (sound-placed e slot x f s)) s
 
 pub sound-retire-source : (e : Engine) (slot : ℕ) → Sound e → Sound (retireSourceOf e slot .engine)
 unfolding retireSourceOf
 sound-retire-source e slot s =
     either (λ (d : Done). Sound (d .engine)) _ _ _
-    (sound-mapped (withSource e slot _) (retireBoundOne slot (e .clock .sample)) (sound-source e slot _ s) (held-retire-bound slot (e .clock .sample))) s
+    (sound-mapped (withSource e slot noSource) (retireBoundOne slot (e .clock .sample)) (sound-source e slot noSource no-source-formed s) (held-retire-bound slot (e .clock .sample))) s
 
 pub sound-release-source : (e : Engine) (slot : ℕ) → Sound e → Sound (releaseSourceOf e slot .engine)
 unfolding releaseSourceOf
-sound-release-source e slot s = either (λ (d : Done). Sound (d .engine)) _ _ _ (sound-source e slot _ s) s
+sound-release-source e slot s =
+    let old = every-getD Formed (e .sources) slot pastSource past-formed (s .formed) in
+    either (λ (d : Done). Sound (d .engine)) _ _ _ (sound-source e slot (releasedOf (getD (e .sources) slot pastSource)) (record { hz = old .hz; strength = old .strength }) s) s
 
 -- ---- seek
 pub sound-sought : (e : Engine) (cycles : Float) → Sound e → Sound (soughtOf e cycles)
@@ -229,11 +307,16 @@ pub sound-reserved : (e : Engine) → Sound e → Sound (reservedOf e .engine)
 unfolding reservedOf
 sound-reserved e s = sound-next e _ s (s .last)
 
+permitted-sounding : (e : Engine) (slot : ℕ) → isPermitted e slot ≡ true → Sounding (e .sources) slot
+unfolding isPermitted
+permitted-sounding e slot h l = both (isSprinkle (e .config .shape)) _ (both (e .config .enabled) _ h .1) .1
+
 pub sound-triggered-by : (e : Engine) (slot index : ℕ) → Sound e → Sound (triggeredBy e slot index .engine)
 unfolding triggeredBy
 sound-triggered-by e slot index s =
     let P : Triggered → Type 0 = λ t. Sound (t .engine) in
-    either P _ _ _ (either P _ _ _ (either P _ _ _ (sound-born _ _ _ s) (sound-born _ _ _ s)) s) s
+    either P _ _ _
+    (in-case P (isPermitted e slot) _ _ (λ q. let b = sound-born e (bitXor index (2 ^ 63)) slot s (permitted-sounding e slot q) in either P _ _ _ b b) (λ q. s)) s
 
 pub sound-triggered : (e : Engine) (slot : ℕ) → Sound e → Sound (triggeredOf e slot .engine)
 unfolding triggeredOf

@@ -22,7 +22,7 @@ use Rattle.runs.proofs.Births.{delivered-keeps}
 use Rattle.runs.proofs.Joins.{steps-count, grown-small}
 use Rattle.runs.proofs.Every.{every-imp, in-case}
 use Rattle.runs.proofs.Sound.{Sound, Held, fit-later}
-use Rattle.runs.proofs.Chosen.{sound-next, sound-born}
+use Rattle.runs.proofs.Chosen.{none-sounding, sound-next, sound-born}
 
 pub sound-streams : (e : Engine) (ss : List SprinkleStream) → Sound e → Sound (withStreams e ss)
 sound-streams e ss s =
@@ -34,6 +34,8 @@ sound-streams e ss s =
       time = s .time;
       places = s .places;
       slots = s .slots;
+      formed = s .formed;
+      active = s .active;
       held = s .held;
     }
 
@@ -48,6 +50,8 @@ sound-clock e k s h l =
       time = l;
       places = s .places;
       slots = s .slots;
+      formed = s .formed;
+      active = s .active;
       held = every-imp (Held (e .clock .sample)) (Held (k .sample)) (fit-later (e .clock .sample) (k .sample) h) (e .particles) (s .held);
     }
 
@@ -56,7 +60,7 @@ sound-tried : (e : Engine) (lane : ℕ) (reference : Float) → Sound e → Soun
 unfolding triedOf
 sound-tried e lane reference s =
     either Sound _ _ _ s
-    (either Sound _ _ _ (either Sound _ _ _ (sound-born _ _ _ (sound-streams e _ s)) (sound-streams e _ s)) (sound-streams e _ s))
+    (either Sound _ _ _ (either Sound _ _ _ (sound-born _ _ _ (sound-streams e _ s) (none-sounding (e .sources))) (sound-streams e _ s)) (sound-streams e _ s))
 
 sound-lane : (e : Engine) (lane : ℕ) (reference : Float) → Sound e → Sound (laneOf e lane reference)
 unfolding laneOf
@@ -67,7 +71,7 @@ unfolding byShape lanesOf cloudOf
 sound-shape Sprinkle e reference s = sound-lane _ 2 reference (sound-lane _ 1 reference (sound-lane e 0 reference s))
 sound-shape Cloud e reference s =
     let moved = sound-next e (withOpportunity (e .next) (opportunityAfter (e .next .opportunity) reference)) s (s .last) in
-    either Sound _ _ _ (either Sound _ _ _ (sound-born _ _ _ moved) moved) s
+    either Sound _ _ _ (either Sound _ _ _ (sound-born _ _ _ moved (none-sounding (e .sources))) moved) s
 
 pub sound-delivered : (e : Engine) → Sound e → Sound (deliveredOf e)
 unfolding deliveredOf
