@@ -6,6 +6,7 @@ pub mod Voices
 pub mod Sound
 pub mod Chosen
 pub mod Steps
+pub mod Kept
 pub mod Stays
 pub mod Frames
 pub mod Performed

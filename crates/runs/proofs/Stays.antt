@@ -11,15 +11,12 @@ use lib.Bits.{bitXor}
 use lib.ListN.{length, getD, length-map, length-set}
 use lib.Ieee.{Float, binary32, fits, ofBits, ofFields, rem, add, sum, round, le, lt, eq, odd}
 use lib.Ieee.Bits.{ofBits-fits}
-use lib.Ieee.Scale.{finite}
 use Rattle.lists.specs.Pick.{pick, either, by-case}
 use Rattle.floats.specs.Names.{f32}
 use Rattle.floats.specs.Choose.{clamp, abs}
 use Rattle.floats.specs.Remainder.{remEuclid}
 use Rattle.pool.specs.declared.Particle.{Particle}
-use Rattle.pool.specs.declared.Retired.{Retired}
-use Rattle.pool.specs.declared.Retired.the-variants.{Not, At}
-use Rattle.pool.specs.Pool.{freeParticle, firstOf, retiredOf, retireOne, retireBoundOne, retunedOf, retuneOne}
+use Rattle.pool.specs.Pool.{freeParticle, retireBoundOne, retuneOne}
 use Rattle.refusals.specs.declared.Answer.{Answer}
 use Rattle.refusals.specs.declared.Answer.the-variants.{Taken, Refused}
 use Rattle.settings.specs.declared.Config.{Config}
@@ -27,8 +24,6 @@ use Rattle.settings.specs.Mending.{maxHop, defaultConfig, checkedOf, lawfulRate
 use Rattle.settings.proofs.Lifetimes as lifetimes
 use Rattle.sources.specs.declared.Source.{Source}
 use Rattle.sources.specs.Sources.{noSource, isPitched, releasedOf}
-use Rattle.frame.proofs.Windowed.{Fair}
-use Rattle.floats.proofs.Rising.{nought}
 use Rattle.floats.proofs.Unit.{nought-unit}
 use Rattle.state.specs.declared.Done.{Done}
 use Rattle.state.specs.declared.Engine.{Engine}
@@ -40,7 +35,8 @@ use Rattle.engine.specs.New.{newEngineOf, resetOf}
 use Rattle.engine.specs.Calls.{isSprinkle, retiredAll, aligned, reweighed, switched, offset, restarted, configuredTo, answeredBy, configuredOf, withNotes, notesOf, withSource, placedOf, setSourceOf, retireSourceOf, releaseSourceOf, soughtNext, soughtClock, soughtOf}
 use Rattle.engine.specs.Triggers.{withIndex, isPermitted, reservedOf, triggeredBy, triggeredOf}
 use Rattle.runs.proofs.Every.{Every, every-map, every-set, every-getD, every-replicate, in-case}
-use Rattle.runs.proofs.Sound.{Fit, Held, Settled, Made, Sound, Sounding, past-formed}
+use Rattle.runs.proofs.Sound.{Held, Settled, Made, Sound, Sounding, past-formed}
+use Rattle.runs.proofs.Kept.{held-retire-one, held-retire-bound, held-retune-one}
 use Rattle.runs.proofs.Voices.{Formed, both, pitched-sounds}
 use Rattle.runs.proofs.Chosen.{sound-next, sound-particles, sound-born}
 use Rattle.runs.proofs.Steps.{sound-streams, sound-clock}
@@ -91,110 +87,7 @@ sound-source e slot x f s =
       held = s .held;
     }
 
--- ---- retirement and a new pitch
-at-of : (a b : ℕ) → At a ≡ At b → a ≡ b
-at-of a b p = ap (λ (r : Retired). firstOf r 0) p
-
-first-in : (birth now : ℕ) (r : Retired) → birth ≤ now → ((t : ℕ) → r ≡ At t → (birth ≤ t) × (t ≤ now)) → (birth ≤ firstOf r now) × (firstOf r now ≤ now)
-first-in birth now Not h k = (h, le-refl now)
-first-in birth now (At t) h k = k t refl
-
--- neither a retirement nor a new pitch that sounds makes a particle unfair
-fair-retired : (now : ℕ) (p : Particle) → Fair p → Fair (retiredOf now p)
-unfolding retiredOf
-fair-retired now p f =
-    let t = f .timed in
-    let w = f .pitched in
-    record {
-      timed =
-          record {
-            strength = t .strength;
-            attack-fits = t .attack-fits;
-            attack-above = t .attack-above;
-            attack-below = t .attack-below;
-            lifetime-finite = t .lifetime-finite;
-            lifetime-above = t .lifetime-above;
-          };
-      pitched =
-          record {
-            hz-fits = w .hz-fits;
-            hz-above = w .hz-above;
-            hz-finite = w .hz-finite;
-            octave = w .octave;
-            width-fits = w .width-fits;
-            width-above = w .width-above;
-            width-finite = w .width-finite;
-          };
-    }
-
-fair-retuned : (hz : Float) (p : Particle) → T (fits binary32 hz) → T (lt nought hz) × T (finite hz) → Fair p → Fair (retunedOf hz p)
-unfolding retunedOf
-fair-retuned hz p h a f =
-    let t = f .timed in
-    let w = f .pitched in
-    record {
-      timed =
-          record {
-            strength = t .strength;
-            attack-fits = t .attack-fits;
-            attack-above = t .attack-above;
-            attack-below = t .attack-below;
-            lifetime-finite = t .lifetime-finite;
-            lifetime-above = t .lifetime-above;
-          };
-      pitched =
-          record {
-            hz-fits = h;
-            hz-above = a .0;
-            hz-finite = a .1;
-            octave = w .octave;
-            width-fits = w .width-fits;
-            width-above = w .width-above;
-            width-finite = w .width-finite;
-          };
-    }
-
-fit-retired : (now : ℕ) (p : Particle) → Fit now p → Fit now (retiredOf now p)
-unfolding retiredOf
-fit-retired now p f =
-    let w = first-in (p .birth) now (p .retirement) (f .born) (f .retired) in
-    record {
-      born = f .born;
-      retired = λ t r. subst (λ (k : ℕ). (p .birth ≤ k) × (k ≤ now)) (at-of _ t r) w;
-      above = f .above;
-      most = f .most;
-      slot = le-refl 256;
-      harmonics = f .harmonics;
-      fair = fair-retired now p (f .fair);
-    }
-
-retired-active : (now : ℕ) (p : Particle) → retiredOf now p .active ≡ p .active
-unfolding retiredOf
-retired-active now p = refl
-
--- what is retired was held
-held-retired : (now : ℕ) (p : Particle) → Held now p → Held now (retiredOf now p)
-held-retired now p f a = fit-retired now p (f (sym (retired-active now p) ∙ a))
-
-held-retire-one : (now : ℕ) (p : Particle) → Held now p → Held now (retireOne now p)
-unfolding retireOne
-held-retire-one now p f = either (Held now) _ _ _ (held-retired now p f) f
-
-held-retire-bound : (slot now : ℕ) (p : Particle) → Held now p → Held now (retireBoundOne slot now p)
-unfolding retireBoundOne
-held-retire-bound slot now p f = either (Held now) _ _ _ (either (Held now) _ _ _ (held-retired now p f) f) f
-
-held-retuned : (now : ℕ) (hz : Float) (p : Particle) → T (fits binary32 hz) → T (lt nought hz) × T (finite hz) → Held now p → Held now (retunedOf hz p)
-unfolding retunedOf
-held-retuned now hz p h k f a =
-    let s = f a in
-    record { born = s .born; retired = s .retired; above = s .above; most = s .most; slot = s .slot; harmonics = s .harmonics; fair = fair-retuned hz p h k (s .fair) }
-
-held-retune-one : (slot now : ℕ) (hz : Float) → T (fits binary32 hz) → T (lt nought hz) × T (finite hz) → (p : Particle) → Held now p → Held now (retuneOne slot hz p)
-unfolding retuneOne
-held-retune-one slot now hz h k p f = either (Held now) _ _ _ (either (Held now) _ _ _ (held-retuned now hz p h k f) f) f
-
--- every place by one function
+-- ---- every place by one function
 sound-mapped : (e : Engine) (g : Particle → Particle) → Sound e → ((p : Particle) → Held (e .clock .sample) p → Held (e .clock .sample) (g p)) → Sound (withParticles e (map g (e .particles)))
 sound-mapped e g s h =
     sound-particles e (map g (e .particles)) s (length-map (e .particles) g ∙ s .places)

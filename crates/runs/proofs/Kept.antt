@@ -1,0 +1,117 @@
+-- A retirement, or a new pitch that sounds, leaves a particle that holds a place as fit as it was.
+use Prim.Native.Nat.{ℕ, _≤_}
+use native.Mathlib.Nat.{le-refl}
+use mathlib.Core.Path.{_≡_, refl, sym, ap, _∙_, subst}
+use lib.Dec.{T}
+use lib.Ieee.{Float, binary32, fits, lt}
+use lib.Ieee.Scale.{finite}
+use Rattle.lists.specs.Pick.{either}
+use Rattle.floats.proofs.Rising.{nought}
+use Rattle.pool.specs.declared.Particle.{Particle}
+use Rattle.pool.specs.declared.Retired.{Retired}
+use Rattle.pool.specs.declared.Retired.the-variants.{Not, At}
+use Rattle.pool.specs.Pool.{firstOf, retiredOf, retireOne, retireBoundOne, retunedOf, retuneOne}
+use Rattle.frame.proofs.Windowed.{Fair}
+use Rattle.runs.proofs.Sound.{Fit, Held}
+
+at-of : (a b : ℕ) → At a ≡ At b → a ≡ b
+at-of a b p = ap (λ (r : Retired). firstOf r 0) p
+
+first-in : (birth now : ℕ) (r : Retired) → birth ≤ now → ((t : ℕ) → r ≡ At t → (birth ≤ t) × (t ≤ now)) → (birth ≤ firstOf r now) × (firstOf r now ≤ now)
+first-in birth now Not h k = (h, le-refl now)
+first-in birth now (At t) h k = k t refl
+
+-- neither a retirement nor a new pitch that sounds makes a particle unfair
+fair-retired : (now : ℕ) (p : Particle) → Fair p → Fair (retiredOf now p)
+unfolding retiredOf
+fair-retired now p f =
+    let t = f .timed in
+    let w = f .pitched in
+    record {
+      timed =
+          record {
+            strength = t .strength;
+            attack-fits = t .attack-fits;
+            attack-above = t .attack-above;
+            attack-below = t .attack-below;
+            lifetime-finite = t .lifetime-finite;
+            lifetime-above = t .lifetime-above;
+          };
+      pitched =
+          record {
+            hz-fits = w .hz-fits;
+            hz-above = w .hz-above;
+            hz-finite = w .hz-finite;
+            octave = w .octave;
+            width-fits = w .width-fits;
+            width-above = w .width-above;
+            width-finite = w .width-finite;
+          };
+    }
+
+fair-retuned : (hz : Float) (p : Particle) → T (fits binary32 hz) → T (lt nought hz) × T (finite hz) → Fair p → Fair (retunedOf hz p)
+unfolding retunedOf
+fair-retuned hz p h a f =
+    let t = f .timed in
+    let w = f .pitched in
+    record {
+      timed =
+          record {
+            strength = t .strength;
+            attack-fits = t .attack-fits;
+            attack-above = t .attack-above;
+            attack-below = t .attack-below;
+            lifetime-finite = t .lifetime-finite;
+            lifetime-above = t .lifetime-above;
+          };
+      pitched =
+          record {
+            hz-fits = h;
+            hz-above = a .0;
+            hz-finite = a .1;
+            octave = w .octave;
+            width-fits = w .width-fits;
+            width-above = w .width-above;
+            width-finite = w .width-finite;
+          };
+    }
+
+fit-retired : (now : ℕ) (p : Particle) → Fit now p → Fit now (retiredOf now p)
+unfolding retiredOf
+fit-retired now p f =
+    let w = first-in (p .birth) now (p .retirement) (f .born) (f .retired) in
+    record {
+      born = f .born;
+      retired = λ t r. subst (λ (k : ℕ). (p .birth ≤ k) × (k ≤ now)) (at-of _ t r) w;
+      above = f .above;
+      most = f .most;
+      slot = le-refl 256;
+      harmonics = f .harmonics;
+      fair = fair-retired now p (f .fair);
+    }
+
+retired-active : (now : ℕ) (p : Particle) → retiredOf now p .active ≡ p .active
+unfolding retiredOf
+retired-active now p = refl
+
+-- what is retired was held
+held-retired : (now : ℕ) (p : Particle) → Held now p → Held now (retiredOf now p)
+held-retired now p f a = fit-retired now p (f (sym (retired-active now p) ∙ a))
+
+pub held-retire-one : (now : ℕ) (p : Particle) → Held now p → Held now (retireOne now p)
+unfolding retireOne
+held-retire-one now p f = either (Held now) _ _ _ (held-retired now p f) f
+
+pub held-retire-bound : (slot now : ℕ) (p : Particle) → Held now p → Held now (retireBoundOne slot now p)
+unfolding retireBoundOne
+held-retire-bound slot now p f = either (Held now) _ _ _ (either (Held now) _ _ _ (held-retired now p f) f) f
+
+held-retuned : (now : ℕ) (hz : Float) (p : Particle) → T (fits binary32 hz) → T (lt nought hz) × T (finite hz) → Held now p → Held now (retunedOf hz p)
+unfolding retunedOf
+held-retuned now hz p h k f a =
+    let s = f a in
+    record { born = s .born; retired = s .retired; above = s .above; most = s .most; slot = s .slot; harmonics = s .harmonics; fair = fair-retuned hz p h k (s .fair) }
+
+pub held-retune-one : (slot now : ℕ) (hz : Float) → T (fits binary32 hz) → T (lt nought hz) × T (finite hz) → (p : Particle) → Held now p → Held now (retuneOne slot hz p)
+unfolding retuneOne
+held-retune-one slot now hz h k p f = either (Held now) _ _ _ (either (Held now) _ _ _ (held-retuned now hz p h k f) f) f
