@@ -3,7 +3,7 @@ use Prim.Native.Nat.{ℕ}
 use mathlib.Core.Bool.{true}
 use mathlib.Core.List.{List, [], _∷_}
 use lib.Ieee.{Float, binary32, binary64, toUnsigned}
-use Rattle.floats.specs.Names.{f32, f64, add32, sub32, mul32, div32, add64, div64}
+use Rattle.floats.specs.Names.{f32, f64, add32, sub32, mul32, div32, div64}
 use Rattle.floats.specs.Choose.{min, clamp}
 use Rattle.floats.specs.Convert.{convert}
 use Rattle.floats.specs.Whole.{floor}
@@ -18,7 +18,6 @@ use Rattle.pitch.specs.Register as register
 use Rattle.pool.specs.declared.Particle.{Particle}
 use Rattle.pool.specs.declared.Retired.the-variants.{Not}
 use Rattle.settings.specs.declared.Config.{Config}
-use Rattle.settings.specs.declared.Contour.{Contour}
 use Rattle.settings.specs.declared.Direction.{Direction}
 use Rattle.settings.specs.declared.Shape.{Shape}
 use Rattle.settings.specs.declared.Shape.the-variants.{Sprinkle, Cloud}

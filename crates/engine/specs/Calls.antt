@@ -7,7 +7,7 @@ use lib.ListN.{getD, set}
 use lib.Ieee.{Float, binary64, toUnsigned, le, eq}
 use lib.Ieee.Scale.{finite}
 use Rattle.lists.specs.Pick.{pick}
-use Rattle.floats.specs.Names.{f64, add64}
+use Rattle.floats.specs.Names.{f64}
 use Rattle.floats.specs.Remainder.{remEuclid}
 use Rattle.floats.specs.Whole.{floor}
 use Rattle.pool.specs.Pool.{retireOne, retireBoundOne, retuneOne}

@@ -1,16 +1,15 @@
 -- A birth leaves an engine as sound as it was: the chosen slot is one of 256 or none, the newborn is fit, and 64 attempts are not passed.
 use Prim.Native.Nat.{ℕ, suc, _+_, _-_, _≤_}
-use native.Mathlib.Nat.{le-refl, le-trans}
 use native.Mathlib.Omega.{arith}
-use mathlib.Core.Path.{_≡_, refl, sym, ap, _∙_, subst}
+use mathlib.Core.Path.{_≡_, sym, _∙_, subst}
 use mathlib.Core.Logic.{_⊎_, inl, inr}
 use mathlib.Core.Bool.{Bool, true, false, true≢false}
 use mathlib.Core.List.{List, [], _∷_}
-use borrow.Author.Tests.{ltb-true, eqb-false, ne-eqb}
+use borrow.Author.Tests.{ltb-true, eqb-false}
 use lib.Dec.{ltb, eqb}
 use lib.ListN.{length, getD, set, length-set}
 use lib.Ieee.{Float}
-use Rattle.lists.specs.Pick.{pick, either, by-case}
+use Rattle.lists.specs.Pick.{pick, either}
 use Rattle.pool.specs.declared.Particle.{Particle}
 use Rattle.sources.specs.declared.Source.{Source}
 use Rattle.sources.specs.Sources.{isEligible, isAlternative, nthFrom, alternativesOf, choiceOf, chosenOf}
@@ -18,7 +17,7 @@ use Rattle.state.specs.declared.Engine.{Engine}
 use Rattle.state.specs.declared.Next.{Next}
 use Rattle.state.specs.declared.Tally.{Tally}
 use Rattle.state.specs.State.{grown, withNext, withParticles, withTally, pastSource}
-use Rattle.delivery.specs.Birth.{chosenFor, withLast, droppedOne, triedOne, bornOne, newbornFor, settledAt, admittedOf, isBarred, attemptedOf, bornOf}
+use Rattle.delivery.specs.Birth.{chosenFor, withLast, triedOne, bornOne, newbornFor, admittedOf, attemptedOf, bornOf}
 use Rattle.runs.proofs.Every.{Every, every-set, in-case}
 use Rattle.runs.proofs.Sound.{Sound, Held, Sounding, engine-newborn}
 

@@ -1,7 +1,7 @@
 -- A frame keeps an engine sound; and of a sound engine each window is empty, or has a finite centre, a radius above 0 (finite where the bin is) and an amplitude from 0 to 1, and the activity lies from 0 to 1.
 use Prim.Native.Nat.{ℕ, _+_, _*_, _<_, zero-le}
-use mathlib.Core.Path.{_≡_, refl, sym, ap, _∙_, subst}
-use mathlib.Core.Logic.{_⊎_, inl, inr}
+use mathlib.Core.Path.{_≡_, sym, ap, _∙_, subst}
+use mathlib.Core.Logic.{_⊎_, inl}
 use mathlib.Core.Bool.{Bool, true, false, true≢false}
 use lib.Dec.{T}
 use lib.ListN.{length, getD, length-map}
@@ -15,7 +15,7 @@ use Rattle.windows.specs.declared.Window.{Window}
 use Rattle.windows.specs.Opening.{none, emptyFrame}
 use Rattle.frame.specs.declared.Framed.{Framed}
 use Rattle.frame.specs.declared.Shown.{Shown}
-use Rattle.frame.specs.Frame.{sweepOne, shownOf, windowOf, activityOf, accepted}
+use Rattle.frame.specs.Frame.{sweepOne, shownOf, windowOf, accepted}
 use Rattle.frame.specs.Call.{heldOf, windowsBy, renewedOf, takenOf, refusedOf, framedOf}
 use Rattle.frame.proofs.Background.{activity-unit}
 use Rattle.frame.proofs.Newborn.{lawful-rated, engine-logs}

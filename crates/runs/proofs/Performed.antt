@@ -1,6 +1,6 @@
 -- The acts of a call, performed one after the other, lead where its contract says.
 use Prim.Native.Nat.{ℕ, zero, suc, _+_, _^_}
-use mathlib.Core.Path.{_≡_, refl, sym, ap, _∙_}
+use mathlib.Core.Path.{_≡_, refl, ap, _∙_}
 use mathlib.Core.Bool.{Bool, true, false}
 use mathlib.Core.List.{List, [], _∷_, _++_}
 use lib.Bits.{bitXor}
@@ -23,7 +23,7 @@ use Rattle.delivery.specs.Sample.{triedOf, laneOf, lanesOf, cloudOf, byShape, d
 use Rattle.engine.specs.Advance.{advancedOf}
 use Rattle.engine.specs.Calls.{retiredAll, aligned, reweighed, switched, offset, restarted, configuredTo, answeredBy, configuredOf, notesOf, placedOf, setSourceOf, retireSourceOf, releaseSourceOf, soughtOf}
 use Rattle.engine.specs.Triggers.{reservedOf, isPermitted, outcomeOf, triggeredBy, triggeredOf}
-use Rattle.runs.specs.Acts.{Act, act, perform, only, triedActs, laneActs, shapeActs, deliverActs, sampleActs, advanceActs, restartActs, weighActs, switchActs, offsetActs, configureActs, checkedActs, triggerActs, Call, actsOf, applied}
+use Rattle.runs.specs.Acts.{Act, act, perform, triedActs, laneActs, shapeActs, deliverActs, sampleActs, advanceActs, restartActs, weighActs, switchActs, offsetActs, configureActs, checkedActs, triggerActs, Call, actsOf, applied}
 use Rattle.runs.specs.Acts as acts
 
 -- ---- lists of acts

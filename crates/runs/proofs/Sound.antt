@@ -1,21 +1,17 @@
 -- What `new` and our calls keep true of an engine, and that a newborn particle keeps to it.
-use Prim.Native.Nat.{ℕ, zero, suc, _+_, _^_, _≤_, _<_, zero-le}
+use Prim.Native.Nat.{ℕ, zero, suc, _^_, _≤_, _<_, zero-le}
 use native.Mathlib.Nat.{le-refl, le-trans}
-use native.Mathlib.Omega.{arith}
 use mathlib.Core.Path.{_≡_, refl, sym, ap, _∙_, subst}
 use mathlib.Core.Bool.{Bool, true, false, true≢false}
-use mathlib.Core.Logic.{_⊎_, inl, inr}
 use mathlib.Core.List.{List, [], _∷_}
 use borrow.Author.Tests.{ltb-true, ltb-false}
 use lib.Dec.{T, ltb, lit≤}
 use lib.ListN.{length, getD}
-use lib.Ieee.{Float, fin, inf, nan, Format, binary32, fits, lt, le}
-use lib.Ieee.Scale.{finite}
-use Rattle.lists.specs.Pick.{pick, either, by-case}
+use lib.Ieee.{Float, binary32, fits, lt, le}
+use Rattle.lists.specs.Pick.{either, by-case}
 use Rattle.floats.proofs.Rising.{nought}
 use Rattle.births.specs.declared.Voice.{Voice}
-use Rattle.births.specs.Births.{rate32, maxHzOf, registerBy, partialsBy, freeVoiceOf, sourceVoiceOf, newbornOf}
-use Rattle.pitch.specs.Partials.{partialsOf}
+use Rattle.births.specs.Births.{rate32, partialsBy, freeVoiceOf, sourceVoiceOf, newbornOf}
 use Rattle.pitch.proofs.Harmonics.{Picks, picks-lawful}
 use Rattle.pool.specs.declared.Particle.{Particle}
 use Rattle.pool.specs.declared.Retired.{Retired}

@@ -1,24 +1,22 @@
 -- Every other call leaves an engine as sound as it was, and `new` and `reset` make a sound one.
-use Prim.Native.Nat.{ℕ, _^_, _≤_, _<_}
+use Prim.Native.Nat.{ℕ, _^_, _≤_}
 use native.Mathlib.Nat.{le-refl}
-use native.Mathlib.Omega.{arith}
-use mathlib.Core.Path.{_≡_, refl, sym, ap, _∙_, subst}
-use mathlib.Core.Bool.{Bool, true, false, _&&_, true≢false}
+use mathlib.Core.Path.{_≡_, refl, sym, _∙_, subst}
+use mathlib.Core.Bool.{Bool, true, false, true≢false}
 use mathlib.Core.List.{List, map}
-use borrow.Author.Tests.{ltb-true, ltb-false}
+use borrow.Author.Tests.{ltb-false}
 use lib.Dec.{T, ltb, lit≤}
 use lib.Bits.{bitXor}
-use lib.ListN.{length, getD, length-map, length-set}
+use lib.ListN.{getD, length-map, length-set}
 use lib.Ieee.{Float, binary32, fits, ofBits, ofFields, rem, add, sum, round, le, lt, eq, odd}
 use lib.Ieee.Bits.{ofBits-fits}
-use Rattle.lists.specs.Pick.{pick, either, by-case}
+use Rattle.lists.specs.Pick.{pick, either}
 use Rattle.floats.specs.Names.{f32}
 use Rattle.floats.specs.Choose.{clamp, abs}
 use Rattle.floats.specs.Remainder.{remEuclid}
 use Rattle.pool.specs.declared.Particle.{Particle}
 use Rattle.pool.specs.Pool.{freeParticle, retireBoundOne, retuneOne}
 use Rattle.refusals.specs.declared.Answer.{Answer}
-use Rattle.refusals.specs.declared.Answer.the-variants.{Taken, Refused}
 use Rattle.settings.specs.declared.Config.{Config}
 use Rattle.settings.specs.Mending.{maxHop, defaultConfig, checkedOf, lawfulRate, finiteOr, heldTo, partialsOf, phaseOf, mendedOf}
 use Rattle.settings.proofs.Lifetimes as lifetimes
@@ -29,12 +27,12 @@ use Rattle.state.specs.declared.Done.{Done}
 use Rattle.state.specs.declared.Engine.{Engine}
 use Rattle.state.specs.declared.Prepared.{Prepared}
 use Rattle.engine.specs.declared.Triggered.{Triggered}
-use Rattle.state.specs.State.{withConfig, withParticles, withSources, withWeights, pastSource}
+use Rattle.state.specs.State.{withConfig, withParticles, withWeights, pastSource}
 use Rattle.state.specs.Make.{preparedOf, noParticles, noSources, newOn}
 use Rattle.engine.specs.New.{newEngineOf, resetOf}
 use Rattle.engine.specs.Calls.{isSprinkle, retiredAll, aligned, reweighed, switched, offset, restarted, configuredTo, answeredBy, configuredOf, withNotes, notesOf, withSource, placedOf, setSourceOf, retireSourceOf, releaseSourceOf, soughtNext, soughtClock, soughtOf}
-use Rattle.engine.specs.Triggers.{withIndex, isPermitted, reservedOf, triggeredBy, triggeredOf}
-use Rattle.runs.proofs.Every.{Every, every-map, every-set, every-getD, every-replicate, in-case}
+use Rattle.engine.specs.Triggers.{isPermitted, reservedOf, triggeredBy, triggeredOf}
+use Rattle.runs.proofs.Every.{every-map, every-set, every-getD, every-replicate, in-case}
 use Rattle.runs.proofs.Sound.{Held, Settled, Made, Sound, Sounding, past-formed}
 use Rattle.runs.proofs.Kept.{held-retire-one, held-retire-bound, held-retune-one}
 use Rattle.runs.proofs.Voices.{Formed, both, pitched-sounds}

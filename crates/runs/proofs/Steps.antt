@@ -1,13 +1,12 @@
 -- A sample, and so an accepted `advance`, leaves an engine as sound as it was.
 use Prim.Native.Nat.{ℕ, zero, suc, _+_, _^_, _≤_, _<_}
 use native.Mathlib.Omega.{arith}
-use mathlib.Core.Path.{_≡_, refl, sym, ap, _∙_, subst}
-use mathlib.Core.Bool.{true, false}
+use mathlib.Core.Path.{_≡_, refl}
 use mathlib.Core.List.{List}
 use borrow.Author.Tests.{leb-true}
 use lib.Dec.{leb}
 use lib.Ieee.{Float}
-use Rattle.lists.specs.Pick.{pick, either}
+use Rattle.lists.specs.Pick.{either}
 use Rattle.lists.specs.Times.{iterate}
 use Rattle.settings.specs.declared.Shape.{Shape}
 use Rattle.settings.specs.declared.Shape.the-variants.{Sprinkle, Cloud}
@@ -15,7 +14,7 @@ use Rattle.timing.specs.declared.SprinkleStream.{SprinkleStream}
 use Rattle.state.specs.declared.Clock.{Clock}
 use Rattle.state.specs.declared.Done.{Done}
 use Rattle.state.specs.declared.Engine.{Engine}
-use Rattle.state.specs.State.{grown, withClock, withStreams}
+use Rattle.state.specs.State.{withClock, withStreams}
 use Rattle.delivery.specs.Sample.{triedOf, laneOf, lanesOf, opportunityAfter, withOpportunity, cloudOf, byShape, deliveredOf, tickedOf, steppedOf}
 use Rattle.engine.specs.Advance.{advancedOf}
 use Rattle.runs.proofs.Births.{delivered-keeps}

@@ -1,25 +1,23 @@
 -- What a birth sounds: a source that may be chosen, or a free voice, has a frequency above 0 and finite, and a strength from 0 to 1.
 use Prim.Native.Nat.{ℕ}
-use mathlib.Core.Path.{_≡_, refl, sym, ap, _∙_, subst}
+use mathlib.Core.Path.{_≡_, refl, sym, ap, subst}
 use mathlib.Core.Bool.{Bool, true, false, false≢true}
 use lib.Count.{trailingZeros}
-use lib.IntN.{pos}
 use lib.Dec.{T}
-use lib.Ieee.{Float, fin, binary32, binary64, add, mul, sum, round, size, span, climb, units, odd, lt, le, eq, isNan, fits, ofBits, ofFields, toBits, toUnsigned}
+use lib.Ieee.{Float, binary32, binary64, add, mul, sum, round, size, span, climb, units, odd, lt, le, eq, isNan, fits, ofBits, ofFields, toBits, toUnsigned}
 use lib.Ieee.Bits.{is-true, ofBits-fits}
 use lib.Ieee.Fits.{mul-fits}
 use lib.Ieee.Scale.{finite}
 use Rattle.lists.specs.Pick.{pick}
 use Rattle.floats.specs.Names.{f32, f64, mul32, div64}
-use Rattle.floats.specs.Choose.{min, clamp}
-use Rattle.floats.specs.Convert.{convert}
+use Rattle.floats.specs.Choose.{min}
 use Rattle.floats.specs.Whole.{floor}
 use Rattle.floats.proofs.Choosing.{clamp-fits, clamp-least, clamp-most}
 use Rattle.floats.proofs.Products.{mul-rises-right}
 use Rattle.floats.proofs.Rising.{nought}
 use Rattle.floats.proofs.Rules.{between-finite, finite-number, lt→le}
 use Rattle.floats.proofs.Spans.{lt-le}
-use Rattle.floats.proofs.Unit.{i, Unit, i-fits, nought-fits, one-unit}
+use Rattle.floats.proofs.Unit.{i, i-fits, nought-fits, one-unit}
 use Rattle.draws.specs.Draws.{randomOf}
 use Rattle.draws.proofs.Unit.{random-in}
 use Rattle.elementary.specs.Placed.{edged, placed}
@@ -34,7 +32,6 @@ use Rattle.settings.specs.declared.Shape.the-variants.{Sprinkle, Cloud}
 use Rattle.settings.specs.Mending.{lawfulRate}
 use Rattle.sources.specs.declared.Source.{Source}
 use Rattle.sources.specs.Sources.{isPitched, isEligible}
-use Rattle.births.specs.declared.Voice.{Voice}
 use Rattle.births.specs.Births.{maxHzOf, freeRootOf, freeHzOf, freeVoiceOf, sourceVoiceOf}
 use Rattle.frame.proofs.Newborn.{Voiced}
 use Rattle.runs.proofs.Fitting.{own-convert}

@@ -1,6 +1,6 @@
 -- The source slots and the choice of a birth's source, line by line as the Rust has them. 256 stands for its `None`. Definitions only.
 use Prim.Native.Nat.{ℕ, suc, _-_}
-use mathlib.Core.Bool.{Bool, true, false, not}
+use mathlib.Core.Bool.{Bool, false, not}
 use mathlib.Core.List.{List, [], _∷_}
 use lib.IntN.{pos}
 use lib.Dec.{eqb, ltb}

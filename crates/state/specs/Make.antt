@@ -1,5 +1,5 @@
 -- What follows from the sample rate, and an engine as it starts, line by line as the Rust has them. Definitions only.
-use Prim.Native.Nat.{ℕ, _+_}
+use Prim.Native.Nat.{_+_}
 use mathlib.Core.Bool.{false}
 use mathlib.Core.List.{List, [], _∷_}
 use lib.IntN.{pos}

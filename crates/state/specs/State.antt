@@ -4,7 +4,6 @@ use mathlib.Core.Bool.{false}
 use mathlib.Core.List.{List}
 use lib.Ieee.{Float, nan}
 use Rattle.pool.specs.declared.Particle.{Particle}
-use Rattle.refusals.specs.declared.Answer.{Answer}
 use Rattle.refusals.specs.declared.Answer.the-variants.{Taken, Refused}
 use Rattle.refusals.specs.declared.Refusal.{Refusal}
 use Rattle.settings.specs.declared.Config.{Config}
