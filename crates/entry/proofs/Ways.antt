@@ -1,12 +1,12 @@
 -- The ways out of the entry.
 use Prim.Native.Nat.{ℕ}
-use mathlib.Core.Path.{_≡_, refl, sym, ap, _∙_}
+use mathlib.Core.Path.{_≡_}
 use mathlib.Core.List.{List}
 use lib.ListN.{length}
 use borrow.Author.Tests.{eq-eqb, ne-eqb}
 use Rattle.lists.specs.Pick.{pick}
 use Rattle.refusals.specs.declared.Answer.{Answer}
-use Rattle.refusals.specs.declared.Answer.the-variants.{Taken, Refused}
+use Rattle.refusals.specs.declared.Answer.the-variants.{Refused}
 use Rattle.refusals.specs.declared.Refusal.the-variants.{Lengths}
 use Rattle.listing.specs.declared.Ended.{Ended}
 use Rattle.listing.specs.Ended.{ranOf}

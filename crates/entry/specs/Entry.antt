@@ -1,6 +1,5 @@
 -- What a host asks a script for: its last accepted frame, as bytes. Definitions only.
 use Prim.Native.Nat.{ℕ, _/_, _%_}
-use mathlib.Core.Bool.{cond}
 use mathlib.Core.List.{List}
 use lib.Dec.{eqb, ltb}
 use lib.Ieee.{Float, binary32, toBits}
@@ -10,7 +9,6 @@ use Rattle.lists.specs.Table.{table}
 use Rattle.refusals.specs.declared.Answer.{Answer}
 use Rattle.refusals.specs.declared.Answer.the-variants.{Taken, Refused}
 use Rattle.refusals.specs.declared.Refusal.the-variants.{Lengths}
-use Rattle.windows.specs.declared.Frame.{Frame}
 use Rattle.windows.specs.declared.Window.{Window}
 use Rattle.windows.specs.Opening.{none}
 use Rattle.listing.specs.Ended.{ranOf}

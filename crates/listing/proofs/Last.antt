@@ -9,7 +9,7 @@ use borrow.Author.Tests.{eq-eqb, ne-eqb}
 use Rattle.steps.specs.declared.Run.{Run}
 use Rattle.steps.specs.Steps.{fresh}
 use Rattle.listing.specs.declared.Turn.{Turn}
-use Rattle.listing.specs.Turns.{turnOf, turnsFrom, turnsOf}
+use Rattle.listing.specs.Turns.{turnOf, turnsFrom}
 use Rattle.listing.specs.Ended.{lastOf, lastTurn}
 use Rattle.listing.proofs.Laws.{taken-left}
 

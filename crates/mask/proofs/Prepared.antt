@@ -19,7 +19,7 @@ use lib.Ieee.Order.{round-mono}
 use lib.Ieee.Scale.{finite}
 use Rattle.lists.specs.All.{all, all-of}
 use Rattle.lists.specs.Pick.{passed, by-case}
-use Rattle.lists.specs.Table.{table, length-table, table-at}
+use Rattle.lists.specs.Table.{length-table, table-at}
 use Rattle.elementary.specs.Log2.{log2Of}
 use Rattle.elementary.proofs.LogExact.{log2-fits}
 use Rattle.elementary.proofs.LogRises.{log2-within, log2-rises}

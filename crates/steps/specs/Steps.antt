@@ -26,7 +26,6 @@ use Rattle.frame.specs.declared.Framed.{Framed}
 use Rattle.frame.specs.Call.{framedOf as takeFrameOf}
 use Rattle.steps.specs.declared.Run.{Run}
 use Rattle.steps.specs.declared.Values.{Values}
-use Rattle.steps.specs.declared.Reply.{Reply}
 use Rattle.steps.specs.declared.Reply.the-variants as R
 use Rattle.steps.specs.declared.Stepped.{Stepped}
 
