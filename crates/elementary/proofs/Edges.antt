@@ -7,10 +7,10 @@ use lib.Ieee.{Float, inf, fin, lt, le, eq, ne, isNan}
 use lib.Ieee.Compare.{differs-from-itself}
 use lib.Ieee.Bits.{is-false}
 use Rattle.floats.proofs.Facts.{ne-self}
-use Rattle.floats.proofs.Numbers.{lt-left-number}
+use Rattle.floats_laws.proofs.Numbers.{lt-left-number}
 use Rattle.floats.proofs.Rules.{le-left, le-right}
-use Rattle.floats.proofs.Rising.{highest}
-use Rattle.floats.proofs.Through.{le-lt, lt-le}
+use Rattle.floats_laws.proofs.Rising.{highest}
+use Rattle.floats_laws.proofs.Through.{le-lt, lt-le}
 use Rattle.floats.proofs.Sat.{no}
 use Rattle.elementary.specs.Placed.{edged}
 use Rattle.elementary.proofs.PowerLike.{nought}

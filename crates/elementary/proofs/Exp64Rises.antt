@@ -12,9 +12,9 @@ use lib.Pow.{pow-pos}
 use lib.Ieee.{Float, nan, inf, fin, binary64, up, down, size, span, climb, odd, lt, le, isNan, ofBits, ofFields, toBits}
 use lib.Ieee.Fits.{up-pos, down-pos}
 use borrow.Author.Tests.{ltb-true, lt-ltb, le-ltb}
-use Rattle.floats.proofs.Mono.{le→signed}
-use Rattle.floats.proofs.Naturals.{sum-rises, div-rises, shifted-less}
-use Rattle.floats.proofs.PatternOrder.{patterns-rise, bits-under, sizes-rise}
+use Rattle.floats_laws.proofs.Mono.{le→signed}
+use Rattle.floats_laws.proofs.Naturals.{sum-rises, div-rises, shifted-less}
+use Rattle.floats_laws.proofs.PatternOrder.{patterns-rise, bits-under, sizes-rise}
 use Rattle.floats.proofs.Sat.{no}
 use Rattle.floats.proofs.Sign.{negative-is}
 use Rattle.elementary.specs.Placed.{edged, placed, placed64}

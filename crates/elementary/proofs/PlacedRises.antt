@@ -5,7 +5,7 @@ use Prim.Native.Nat.{ℕ, _+_, _-_, _*_, _/_, _^_, _≤_, _<_, min}
 use native.Mathlib.Nat.{le-trans, le-of-eq, mul-assoc, mul-le-mul-right, mul-le-mul-left, add-mul, one-mul, div-one, div-le-self, mul-add-div-right, div-eq-of-lt, add-zero}
 use native.Mathlib.Omega.{arith}
 use lib.Pow.{shr-mono}
-use Rattle.floats.proofs.Naturals.{le-or-lt, sum-rises, div-rises, shifted-less}
+use Rattle.floats_laws.proofs.Naturals.{le-or-lt, sum-rises, div-rises, shifted-less}
 use Rattle.elementary.specs.Placed.{placed}
 
 min-rises : (z : ℕ) {x y : ℕ} → x ≤ y → min x z ≤ min y z

@@ -5,7 +5,7 @@ use lib.IntN.{pos}
 use lib.Dec.{T}
 use lib.Ieee.{Float, nan, inf, fin, le, isNan}
 use Rattle.floats.proofs.Rules.{le-left}
-use Rattle.floats.proofs.Rising.{lowest}
+use Rattle.floats_laws.proofs.Rising.{lowest}
 
 abbrev pub nought : Float
 nought = fin false 0 (pos 0)

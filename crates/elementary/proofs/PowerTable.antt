@@ -8,7 +8,7 @@ use native.Mathlib.Omega.{arith}
 use lib.Dec.{T, ltb, leb, leb→le, ltb→lt}
 use lib.Pow.{pow-pos}
 use lib.Ieee.Fits.{and-l, and-r}
-use Rattle.floats.proofs.Naturals.{sum-rises, div-rises}
+use Rattle.floats_laws.proofs.Naturals.{sum-rises, div-rises}
 use Rattle.lists.specs.All.{all, all-at}
 use Rattle.elementary.specs.PowerCells.{starts, slopes, bends, startOf, slopeOf, bendOf}
 use Rattle.elementary.specs.Power.{curve, inCell, mantissa}

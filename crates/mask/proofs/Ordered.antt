@@ -13,9 +13,9 @@ use lib.Ieee.Bits.{is-true, is-false}
 use lib.Ieee.Fits.{and-l, and-r}
 use lib.Ieee.Scale.{finite}
 use Rattle.lists.specs.All.{all-at}
-use Rattle.floats.proofs.Rising.{le-refl}
+use Rattle.floats_laws.proofs.Rising.{le-refl}
 use Rattle.floats.proofs.Rules.{le-trans, not-lt→le, finite-number}
-use Rattle.floats.proofs.Through.{le-lt}
+use Rattle.floats_laws.proofs.Through.{le-lt}
 use Rattle.mask.specs.Gains.{lawfulAt, lawfulLogs}
 use Rattle.mask.specs.Walk.{Sorted}
 

@@ -1,7 +1,5 @@
 pub mod Births
 pub mod Joins
-pub mod Every
-pub mod Fitting
 pub mod Voices
 pub mod Sound
 pub mod Chosen

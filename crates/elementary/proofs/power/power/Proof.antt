@@ -9,7 +9,7 @@ use lib.Ieee.Scale.{finite}
 use denote.Floats.{passes}
 use Rattle.floats.proofs.Facts.{ne-self, no-nan}
 use Rattle.floats.proofs.Narrow as Narrow
-use Rattle.floats.proofs.Numbers.{lt-left-number, inside-finite, mul-number}
+use Rattle.floats_laws.proofs.Numbers.{lt-left-number, inside-finite, mul-number}
 use Rattle.floats.proofs.Rules.{add-number}
 use Rattle.elementary.specs.Power.{power, lifted}
 use Rattle.elementary.proofs.Edges.{upper-edge, lower-edge, edged-nan, edged-within, edged-low, edged-high}

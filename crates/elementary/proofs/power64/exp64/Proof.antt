@@ -6,7 +6,7 @@ use lib.Dec.{T}
 use lib.Ieee.{binary64, neg, ofBits, toBits}
 use Rattle.floats.proofs.Facts.{ne-self}
 use Rattle.floats.proofs.Narrow.{no-nan}
-use Rattle.floats.proofs.Numbers.{lt-left-number}
+use Rattle.floats_laws.proofs.Numbers.{lt-left-number}
 use Rattle.elementary.specs.Exp64.{sided, expBits, exp64}
 use Rattle.elementary.proofs.Edges.{upper-edge, edged-nan, edged-within, edged-low, edged-high}
 use Rattle.elementary.proofs.Exp64Rises.{size-bits, expBits-under}

@@ -1,6 +1,6 @@
 use native.Mathlib.Omega.{arith}
 use Rattle.elementary.specs.Exp64.{high}
-use Rattle.floats.proofs.Halves.{Bounds, bounds, high-is, high-le}
+use Rattle.floats_laws.proofs.Halves.{Bounds, bounds, high-is, high-le}
 use Rattle.elementary.proofs.power64.high.Statement.{statement}
 use Rattle.elementary.proofs.power64.high.Tie as tie
 

@@ -1,7 +1,7 @@
 use mathlib.Core.Path.{_≡_, refl}
 use Prim.Native.Nat.{ℕ, _≤_, _<_}
 use native.Mathlib.Omega.{arith}
-use Rattle.floats.proofs.Tables.{past}
+use Rattle.floats_laws.proofs.Tables.{past}
 use Rattle.elementary.specs.PowerCells.{starts, slopes, bends, startOf, slopeOf, bendOf}
 use Rattle.elementary.proofs.power_cells.cell_of.Statement.{statement}
 use Rattle.elementary.proofs.power_cells.cell_of.Tie as tie
