@@ -16,13 +16,14 @@ use Rattle.settings.specs.declared.Shape.the-variants.{Sprinkle, Cloud}
 use Rattle.settings.specs.Mending.{checkedOf, mendedOf}
 use Rattle.state.specs.declared.Done.{Done}
 use Rattle.state.specs.declared.Engine.{Engine}
-use Rattle.engine.specs.declared.Triggered.{Triggered}
+use Rattle.triggers.specs.declared.Triggered.{Triggered}
 use Rattle.state.specs.State.{withConfig}
 use Rattle.delivery.specs.Birth.{bornOf}
 use Rattle.delivery.specs.Sample.{triedOf, laneOf, lanesOf, cloudOf, byShape, deliveredOf, tickedOf, steppedOf}
 use Rattle.engine.specs.Advance.{advancedOf}
-use Rattle.engine.specs.Calls.{retiredAll, aligned, reweighed, switched, offset, restarted, configuredTo, answeredBy, configuredOf, notesOf, placedOf, setSourceOf, retireSourceOf, releaseSourceOf, soughtOf}
-use Rattle.engine.specs.Triggers.{reservedOf, isPermitted, outcomeOf, triggeredBy, triggeredOf}
+use Rattle.changes.specs.Changes.{retiredAll, aligned, reweighed, switched, offset, restarted, configuredTo, answeredBy, configuredOf, notesOf, soughtOf}
+use Rattle.source_calls.specs.Slots.{placedOf, setSourceOf, retireSourceOf, releaseSourceOf}
+use Rattle.triggers.specs.Triggers.{reservedOf, isPermitted, outcomeOf, triggeredBy, triggeredOf}
 use Rattle.runs.specs.Acts.{Act, act, perform, triedActs, laneActs, shapeActs, deliverActs, sampleActs, advanceActs, restartActs, weighActs, switchActs, offsetActs, configureActs, checkedActs, triggerActs, Call, actsOf, applied}
 use Rattle.runs.specs.Acts as acts
 

@@ -18,7 +18,7 @@ use Rattle.pool.specs.declared.Particle.{Particle}
 use Rattle.pool.specs.Pool.{freeParticle, retireBoundOne, retuneOne}
 use Rattle.refusals.specs.declared.Answer.{Answer}
 use Rattle.settings.specs.declared.Config.{Config}
-use Rattle.settings.specs.Mending.{maxHop, defaultConfig, checkedOf, lawfulRate, finiteOr, heldTo, partialsOf, phaseOf, mendedOf}
+use Rattle.settings.specs.Mending.{isSprinkle, maxHop, defaultConfig, checkedOf, lawfulRate, finiteOr, heldTo, partialsOf, phaseOf, mendedOf}
 use Rattle.settings_laws.proofs.Lifetimes as lifetimes
 use Rattle.sources.specs.declared.Source.{Source}
 use Rattle.sources.specs.Sources.{noSource, isPitched, releasedOf}
@@ -26,12 +26,13 @@ use Rattle.floats_laws.proofs.Unit.{nought-unit}
 use Rattle.state.specs.declared.Done.{Done}
 use Rattle.state.specs.declared.Engine.{Engine}
 use Rattle.state.specs.declared.Prepared.{Prepared}
-use Rattle.engine.specs.declared.Triggered.{Triggered}
+use Rattle.triggers.specs.declared.Triggered.{Triggered}
 use Rattle.state.specs.State.{withConfig, withParticles, withWeights, pastSource}
 use Rattle.state.specs.Make.{preparedOf, noParticles, noSources, newOn}
 use Rattle.engine.specs.New.{newEngineOf, resetOf}
-use Rattle.engine.specs.Calls.{isSprinkle, retiredAll, aligned, reweighed, switched, offset, restarted, configuredTo, answeredBy, configuredOf, withNotes, notesOf, withSource, placedOf, setSourceOf, retireSourceOf, releaseSourceOf, soughtNext, soughtClock, soughtOf}
-use Rattle.engine.specs.Triggers.{isPermitted, reservedOf, triggeredBy, triggeredOf}
+use Rattle.changes.specs.Changes.{retiredAll, aligned, reweighed, switched, offset, restarted, configuredTo, answeredBy, configuredOf, withNotes, notesOf, soughtNext, soughtClock, soughtOf}
+use Rattle.source_calls.specs.Slots.{withSource, placedOf, setSourceOf, retireSourceOf, releaseSourceOf}
+use Rattle.triggers.specs.Triggers.{isPermitted, reservedOf, triggeredBy, triggeredOf}
 use Rattle.lists.specs.Every.{every-map, every-set, every-getD, every-replicate, in-case}
 use Rattle.runs.proofs.Sound.{Held, Settled, Made, Sound, Sounding, past-formed}
 use Rattle.runs.proofs.Kept.{held-retire-one, held-retire-bound, held-retune-one}

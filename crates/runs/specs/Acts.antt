@@ -29,8 +29,9 @@ use Rattle.state.specs.Make.{weightsOf}
 use Rattle.delivery.specs.Birth.{bornOf}
 use Rattle.delivery.specs.Sample.{triedOf, laneOf, opportunityAfter, withOpportunity, referenceNow, deliveredOf, tickedOf, steppedOf}
 use Rattle.engine.specs.Advance.{advancedOf}
-use Rattle.engine.specs.Calls.{retiredAll, sameKind, reweighed, switched, offset, offsetTo, enters, preparedAll, withNotes, withSource, soughtClock, soughtNext, configuredOf, notesOf, setSourceOf, retireSourceOf, releaseSourceOf, soughtOf}
-use Rattle.engine.specs.Triggers.{withIndex, isPermitted, reservedOf, triggeredBy, triggeredOf}
+use Rattle.changes.specs.Changes.{retiredAll, sameKind, reweighed, switched, offset, offsetTo, enters, preparedAll, withNotes, soughtClock, soughtNext, configuredOf, notesOf, soughtOf}
+use Rattle.source_calls.specs.Slots.{withSource, setSourceOf, retireSourceOf, releaseSourceOf}
+use Rattle.triggers.specs.Triggers.{withIndex, isPermitted, reservedOf, triggeredBy, triggeredOf}
 
 -- ---- acts
 pub data Act : Type 0 where
