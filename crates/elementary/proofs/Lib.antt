@@ -6,9 +6,3 @@ pub mod Squares
 pub mod RootNearest
 pub mod LogRungs
 pub mod LogExact
-pub mod PowerLike
-pub mod Edges
-pub mod PlacedAt
-pub mod PlacedRises
-pub mod PowerTable
-pub mod Exp64Rises

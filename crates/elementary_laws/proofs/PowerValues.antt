@@ -14,11 +14,11 @@ use Rattle.floats_laws.proofs.Rising.{div-rises}
 use Rattle.floats.proofs.Rules.{le-trans}
 use Rattle.lists.specs.All.{all, all-at}
 use Rattle.floats_laws.proofs.Same.{same, same→≡}
-use Rattle.elementary.specs.Placed.{edged, placed}
-use Rattle.elementary.specs.PowerCells.{starts, slopes, bends, startOf, slopeOf, bendOf}
-use Rattle.elementary.specs.Power.{lifted, mantissa, powerBits, power, exp2, pow10, dbToGain}
-use Rattle.elementary.proofs.Edges.{upper-edge, lower-edge}
-use Rattle.elementary.proofs.PowerLike.{nought, one, in-unit, at-most-one}
+use Rattle.powers.specs.Placed.{edged, placed}
+use Rattle.powers.specs.PowerCells.{starts, slopes, bends, startOf, slopeOf, bendOf}
+use Rattle.powers.specs.Power.{lifted, mantissa, powerBits, power, exp2, pow10, dbToGain}
+use Rattle.powers.proofs.Edges.{upper-edge, lower-edge}
+use Rattle.powers.proofs.PowerLike.{nought, one, in-unit, at-most-one}
 use Rattle.elementary_laws.proofs.PowerRises.{pow10-like}
 
 -- ---- 2^(n - 149), for n from 0 to 276

@@ -1,10 +1,5 @@
-pub mod Facts
-pub mod Values
-pub mod Sat
 pub mod Order
 pub mod Floor
-pub mod Pack
-pub mod Narrow
 pub mod Keys
 pub mod Rules
 pub mod Sign

@@ -11,7 +11,7 @@ use lib.Ieee.{Float, nan, inf, fin, Format, prec, up, down, round, add, sub, neg
 use lib.Ieee.Fits.{down-pos}
 use denote.Floats.{passes}
 use Rattle.floats.specs.Choose.{max, min, abs}
-use Rattle.floats.specs.Convert.{convert}
+use Rattle.casts.specs.Convert.{convert}
 use Rattle.lists.specs.Pick.{by-case}
 use Rattle.floats_laws.proofs.Mag.{Mag, Upto, Least, least-pos, within, within-upto}
 

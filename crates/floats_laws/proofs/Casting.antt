@@ -11,8 +11,8 @@ use lib.Ieee.{Float, nan, inf, fin, Format, up, down, round, ofInt, toUnsigned, 
 use lib.Ieee.Fits.{down-pos, round-fits, and-r}
 use lib.Ieee.Nearest.{div-mono}
 use lib.Ieee.Order.{round-mono}
-use Rattle.floats.specs.Convert.{convert}
-use Rattle.floats.proofs.Values.{own-round}
+use Rattle.casts.specs.Convert.{convert}
+use Rattle.casts.proofs.Values.{own-round}
 use Rattle.floats.proofs.Floor.{round-number}
 use Rattle.floats_laws.proofs.Mono.{signed-key-rises, round-signed-key, le→signed, plus, minus}
 use Rattle.floats.proofs.Rules.{key→le, le-left, le-right}

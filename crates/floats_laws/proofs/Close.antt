@@ -7,8 +7,8 @@ use mathlib.Core.Logic.{_⊎_, inl, inr}
 use lib.Dec.{ltb, lit<}
 use lib.Ieee.Nearest.{closest}
 use borrow.Author.Tests.{ltb-true, ltb-false}
-use Rattle.floats.specs.Convert.{apart}
-use Rattle.floats.proofs.Narrow.{closest-below, closest-tie, closest-above}
+use Rattle.casts.specs.Convert.{apart}
+use Rattle.casts.proofs.Narrow.{closest-below, closest-tie, closest-above}
 use Rattle.lists.specs.Pick.{by-case}
 
 pub eq-or-lt : (a b : ℕ) → (a ≡ b) ⊎ ((a < b) ⊎ (b < a))

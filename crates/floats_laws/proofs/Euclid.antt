@@ -12,7 +12,7 @@ use lib.Ieee.Scale.{finite, round-same}
 use borrow.Author.Tests.{le-ltb}
 use Rattle.floats.specs.Choose.{abs}
 use Rattle.floats.specs.Remainder.{remEuclid}
-use Rattle.floats.proofs.Values.{own-round}
+use Rattle.casts.proofs.Values.{own-round}
 use Rattle.floats.proofs.Floor.{round-number}
 use Rattle.floats.proofs.Keys.{over, side, mag, key}
 use Rattle.floats_laws.proofs.Mono.{roundedSize, rounded-size-rises, round-side}

@@ -12,7 +12,7 @@ use lib.Ieee.Fits.{up-pos, down-pos, round-fits, round-is, and-l, and-r}
 use lib.Ieee.Order as Order
 use lib.Ieee.Order.{round-mono}
 use lib.Ieee.Scale.{round-same}
-use Rattle.floats.proofs.Values.{own-round}
+use Rattle.casts.proofs.Values.{own-round}
 use Rattle.floats.proofs.Floor.{round-number}
 use Rattle.floats.proofs.Keys.{over, mag, side, key, le-key}
 

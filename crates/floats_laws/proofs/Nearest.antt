@@ -15,9 +15,9 @@ use lib.Ieee.Exact.{HasValue, units-val}
 use lib.Ieee.Nearest.{closest, nearest-ge}
 use lib.Ieee.Scale.{finite}
 use borrow.Author.Tests.{ltb-true, ltb-false}
-use Rattle.floats.specs.Convert.{convert, unitsIn, apart, Nearest, Rounded}
-use Rattle.floats.proofs.Values.{fine, steps}
-use Rattle.floats.proofs.Pack.{pattern, units-over, twice}
+use Rattle.casts.specs.Convert.{convert, unitsIn, apart, Nearest, Rounded}
+use Rattle.casts.proofs.Values.{fine, steps}
+use Rattle.casts.proofs.Pack.{pattern, units-over, twice}
 use Rattle.floats.proofs.Keys.{mag-is}
 use Rattle.floats.proofs.Sign.{negative-is}
 use Rattle.lists.specs.Pick.{by-case}

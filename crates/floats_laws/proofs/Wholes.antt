@@ -14,7 +14,7 @@ use lib.Ieee.Fits.{down-pos, round-fits}
 use lib.Ieee.Scale.{round-same}
 use Rattle.lists.specs.Pick.{by-case}
 use Rattle.floats.specs.Names.{add32, sub32}
-use Rattle.floats.proofs.Values.{unique}
+use Rattle.casts.proofs.Values.{unique}
 
 -- x is the whole number k - 1000
 pub record At (x : Float) (k : ℕ) : Type 0 where

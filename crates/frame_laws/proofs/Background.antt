@@ -11,8 +11,8 @@ use Rattle.floats.specs.Names.{f32, div32}
 use Rattle.floats_laws.proofs.Gap.{quotient-number}
 use Rattle.floats_laws.proofs.Rising.{nought, neg-falls, div-rises}
 use Rattle.floats.proofs.Rules.{finite-number, neg-finite, le-trans}
-use Rattle.elementary.specs.Power.{exp}
-use Rattle.elementary.proofs.PowerLike.{in-unit}
+use Rattle.powers.specs.Power.{exp}
+use Rattle.powers.proofs.PowerLike.{in-unit}
 use Rattle.elementary_laws.proofs.PowerRises.{exp-like}
 use Rattle.elementary_laws.proofs.PowerValues.{power-fits}
 use Rattle.frame.specs.Frame.{stepOf, movedOf, activityOf, accepted}

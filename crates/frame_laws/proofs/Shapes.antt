@@ -26,7 +26,7 @@ use Rattle.floats_laws.proofs.PositiveBits.{positive-under}
 use Rattle.floats_laws.proofs.Rising.{le-refl as float-refl, nought, not-above, not-itself, add-rises-right, div-rises}
 use Rattle.floats.proofs.Rules.{finite-number, lt→le, add-number, between-finite, le-trans as float-trans}
 use Rattle.floats_laws.proofs.Spans.{lt-le}
-use Rattle.floats.proofs.Values.{own-round}
+use Rattle.casts.proofs.Values.{own-round}
 use Rattle.elementary.specs.Log2.{log2Of}
 use Rattle.elementary.proofs.LogExact.{log2-fits}
 use Rattle.elementary.proofs.LogRises.{least, most, log2-within}

@@ -14,14 +14,14 @@ use lib.Ieee.Scale.{finite}
 use borrow.Author.Tests.{le-ltb}
 use Rattle.lists.specs.Pick.{either}
 use Rattle.floats.specs.Names.{f64}
-use Rattle.floats.specs.Convert.{convert}
+use Rattle.casts.specs.Convert.{convert}
 use Rattle.floats_laws.proofs.Casting.{convert-number}
 use Rattle.floats.proofs.Floor.{round-number}
 use Rattle.floats_laws.proofs.Gap.{quotient-number, one-number}
 use Rattle.floats_laws.proofs.Mag.{mag-finite, within}
 use Rattle.floats_laws.proofs.Rising.{nought, not-above}
 use Rattle.floats_laws.proofs.Spans.{lt-le}
-use Rattle.floats.proofs.Values.{fine}
+use Rattle.casts.proofs.Values.{fine}
 use Rattle.pool.specs.declared.Particle.{Particle}
 use Rattle.pool.specs.declared.Retired.{Retired}
 use Rattle.pool.specs.declared.Retired.the-variants.{Not, At}

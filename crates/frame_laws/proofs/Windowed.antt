@@ -13,7 +13,7 @@ use Rattle.lists.specs.Pick.{pick, by-case, picked}
 use Rattle.floats_laws.proofs.Mag.{Mag, mag-finite}
 use Rattle.floats_laws.proofs.Rising.{nought}
 use Rattle.floats.proofs.Rules.{finite-number}
-use Rattle.elementary.specs.Power.{exp2}
+use Rattle.powers.specs.Power.{exp2}
 use Rattle.elementary_laws.proofs.PowerValues.{power-fits}
 use Rattle.pool.specs.declared.Particle.{Particle}
 use Rattle.windows.specs.declared.Window.{Window}

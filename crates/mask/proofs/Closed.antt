@@ -11,7 +11,7 @@ use lib.Ieee as Ieee
 use lib.Ieee.Fits.{up-pos, and-l}
 use Rattle.floats_laws.proofs.Rising.{nought}
 use Rattle.floats_laws.proofs.Units.{one as i, zero-fits}
-use Rattle.floats.proofs.Values.{same-fin}
+use Rattle.casts.proofs.Values.{same-fin}
 use Rattle.windows.specs.Opening.{nil, one}
 
 at-zero : (s : Bool) → sub binary32 i (fin s 0 (pos 0)) ≡ i

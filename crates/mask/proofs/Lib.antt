@@ -4,4 +4,3 @@ pub mod Opens
 pub mod Ordered
 pub mod Raising
 pub mod Ranges
-pub mod Scanned

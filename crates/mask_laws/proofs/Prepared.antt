@@ -38,8 +38,8 @@ use Rattle.floats_laws.proofs.Through.{lt-le}
 use Rattle.floats_laws.proofs.Units.{one as i, zero-fits, one-times}
 use Rattle.settings.specs.Mending.{lawfulRate}
 use Rattle.windows.specs.Opening.{nil}
-use Rattle.mask.specs.Bins.{asFloat, logAt, logsOf}
-use Rattle.mask.specs.Gains.{lawfulAt, lawfulLogs}
+use Rattle.bin_tables.specs.Bins.{asFloat, logAt, logsOf}
+use Rattle.bin_tables.specs.Logs.{lawfulAt, lawfulLogs}
 
 -- ---- a rate over a size
 abbrev lowest : Float

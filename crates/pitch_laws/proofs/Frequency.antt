@@ -25,7 +25,7 @@ use Rattle.floats_laws.proofs.Spans.{lt-le}
 use Rattle.draws.specs.Draws.{randomOf}
 use Rattle.draws.proofs.Unit.{random-in}
 use Rattle.elementary.specs.Log2.{log2Of}
-use Rattle.elementary.specs.Power.{exp2}
+use Rattle.powers.specs.Power.{exp2}
 use Rattle.elementary.specs.Sqrt.{sqrtOf}
 use Rattle.elementary.proofs.LogRises.{log2-rises}
 use Rattle.elementary_laws.proofs.PowerRises.{exp2-like}

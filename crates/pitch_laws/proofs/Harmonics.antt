@@ -21,10 +21,9 @@ use Rattle.floats.proofs.Keys.{key, le-key, lt-key}
 use Rattle.floats.proofs.Rules.{le-right, le-trans}
 use Rattle.draws.specs.Draws.{randomOf}
 use Rattle.pitch.specs.Register.{nil, one}
-use Rattle.pitch.specs.Octave.{asFloat}
-use Rattle.pitch.specs.Partials.{countOf, keptOf, allowedOf, drawnOf, partialsOf}
+use Rattle.harmonics.specs.Partials.{asFloat, countOf, keptOf, allowedOf, drawnOf, partialsOf}
 use Rattle.pitch_laws.proofs.Picks.{Drawable, Chosen, chosen-drawn, nil-gone}
-use Rattle.pitch.proofs.Walks.{count-most, length-drawn}
+use Rattle.harmonics.proofs.Turns.{count-most, length-drawn}
 
 -- the harmonic p may be picked
 pub record Lawful (limit : ℕ) (ratio : Float) (weights : List Float) (p : ℕ) : Type 0 where

@@ -30,7 +30,8 @@ use Rattle.floats_laws.proofs.Spans.{lt-le}
 use Rattle.elementary.proofs.LogExact.{log2-fits}
 use Rattle.elementary.proofs.LogRises.{least, most, log2-rises, log2-within}
 use Rattle.pitch.specs.Register.{nil, half, one, minHz}
-use Rattle.pitch.specs.Octave.{asFloat, upwardOf, lastOf, chosenFrom, chosenOf, firstOf, octavesOf, octaveOf, upperOf, lowerOf, registerOf}
+use Rattle.harmonics.specs.Partials.{asFloat}
+use Rattle.pitch.specs.Octave.{upwardOf, lastOf, chosenFrom, chosenOf, firstOf, octavesOf, octaveOf, upperOf, lowerOf, registerOf}
 use Rattle.settings.specs.declared.Direction.{Direction}
 use Rattle.pitch_laws.proofs.Harmonics.{one-is}
 use Rattle.pitch.proofs.Logs.{log-of-min, log-of-top}

@@ -14,8 +14,8 @@ use Rattle.floats.specs.Names.{sub32, mul32}
 use Rattle.lists.specs.Pick.{pick, by-case}
 use Rattle.draws.specs.Draws.{randomOf}
 use Rattle.pitch.specs.Register.{nil}
-use Rattle.pitch.specs.Partials.{sumOf, harmonicFrom, harmonicOf, withoutOf, drawnFrom}
-use Rattle.pitch.proofs.Walks.{length-without}
+use Rattle.harmonics.specs.Partials.{sumOf, harmonicFrom, harmonicOf, withoutOf, drawnFrom}
+use Rattle.harmonics.proofs.Turns.{length-without}
 
 -- the harmonic p can be drawn: its weight is not zero or below
 pub record Drawable (ws : List Float) (p : ℕ) : Type 0 where

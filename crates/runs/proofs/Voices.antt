@@ -20,9 +20,9 @@ use Rattle.floats_laws.proofs.Spans.{lt-le}
 use Rattle.floats_laws.proofs.Unit.{i, i-fits, nought-fits, one-unit}
 use Rattle.draws.specs.Draws.{randomOf}
 use Rattle.draws.proofs.Unit.{random-in}
-use Rattle.elementary.specs.Placed.{edged, placed}
-use Rattle.elementary.specs.PowerCells.{starts, slopes, bends, startOf, slopeOf, bendOf}
-use Rattle.elementary.specs.Power.{lifted, mantissa, powerBits, power, exp2, pow8}
+use Rattle.powers.specs.Placed.{edged, placed}
+use Rattle.powers.specs.PowerCells.{starts, slopes, bends, startOf, slopeOf, bendOf}
+use Rattle.powers.specs.Power.{lifted, mantissa, powerBits, power, exp2, pow8}
 use Rattle.elementary_laws.proofs.PowerRises.{pow8-like}
 use Rattle.elementary_laws.proofs.PowerValues.{power-fits}
 use Rattle.pitch.specs.Cloud.{frequencyOf}

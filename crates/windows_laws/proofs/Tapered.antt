@@ -24,9 +24,9 @@ use Rattle.floats_laws.proofs.Mono.{le→signed}
 use Rattle.floats_laws.proofs.Numbers.{mul-number}
 use Rattle.floats_laws.proofs.Rising.{nought, sub-falls, mul-rises}
 use Rattle.floats.proofs.Rules.{finite-number, le-trans}
-use Rattle.floats.proofs.Sat.{no}
+use Rattle.casts.proofs.Sat.{no}
 use Rattle.floats_laws.proofs.Units.{one as i, zero-fits, one-fits, unit}
-use Rattle.floats.proofs.Values.{fine, same-fin}
+use Rattle.casts.proofs.Values.{fine, same-fin}
 use Rattle.lists.specs.Pick.{by-case}
 use Rattle.windows_laws.proofs.UpperHalf.{two, three, above-half}
 use Rattle.windows.specs.Opening.{cubic, taperOf}
