@@ -1,0 +1,4 @@
+pub mod Demand3
+pub mod Lives
+pub mod Quiet
+pub mod Stories

@@ -1,0 +1,3 @@
+pub mod Demand3
+pub mod Life
+pub mod Runs
