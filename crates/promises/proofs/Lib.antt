@@ -1,4 +1,5 @@
 pub mod Demand3
 pub mod Lives
+pub mod Marked
 pub mod Quiet
 pub mod Stories
