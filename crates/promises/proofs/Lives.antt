@@ -12,7 +12,7 @@ use lib.ListN.{length, getD, set, length-set, List·getD-map, List·getD-eq-defa
 use lib.Seq.{getD-set-same, getD-set-other}
 use lib.Ieee.{Float, le}
 use Rattle.lists.specs.Pick.{pick, picked, passed, by-case}
-use Rattle.lists.specs.First.{first-most, first-fails, first-passes}
+use Rattle.lists.specs.First.{first-fails, first-passes}
 use Rattle.floats.specs.Names.{f64}
 use Rattle.pool.specs.declared.Particle.{Particle}
 use Rattle.pool.specs.declared.Retired.{Retired}
@@ -25,7 +25,7 @@ use Rattle.frame.specs.Frame.{secondsOf, retirementOf, dueOf, sweepOne}
 use Rattle.frame.specs.Call.{heldOf, renewedOf}
 use Rattle.runs.specs.Acts.{Act, birth, retire, retireBound, retune, frame, source, streams, next, clock, weights, settings, act}
 use Rattle.runs.proofs.Every.{in-case}
-use Rattle.promises.specs.Life.{place, Held, permitted, newborn, Life, lifeOf, Fate, living, freed, age, faded, due, first, retiredAt, told}
+use Rattle.promises.specs.Life.{place, permitted, newborn, lifeOf, Fate, living, freed, age, faded, due, first, retiredAt, told}
 use Rattle.promises.specs.Demand3.{Lowest}
 
 -- what an act does to what stands at a place, but for a birth that takes it

@@ -1,11 +1,11 @@
 -- The scope's twelve marked examples hold: one claim of the whole table.
-use Prim.Native.Nat.{ℕ, zero, suc, _+_, _*_, _%_, _/_, _^_}
+use Prim.Native.Nat.{ℕ, zero, suc, _+_, _^_}
 use mathlib.Core.Path.{_≡_, refl, sym, ap, _∙_}
-use mathlib.Core.Bool.{Bool, true, false}
+use mathlib.Core.Bool.{true, false}
 use mathlib.Core.List.{List, [], _∷_}
 use lib.Dec.{T, lit≤}
-use lib.ListN.{getD, set, replicate}
-use lib.Ieee.{Float, nan, binary32, fits, add, sub, mul, div, sum, rem, round, size, span, climb, units, odd, lt, le, eq, isNan, ofBits, ofFields, ofInt, toBits, neg}
+use lib.ListN.{set, replicate}
+use lib.Ieee.{Float, binary32, add, sub, mul, div, sum, rem, round, size, span, climb, units, odd, lt, le, eq, isNan, ofBits, ofFields, ofInt, toBits, neg}
 use lib.Ieee.Bits.{ofBits-fits}
 use Rattle.lists.specs.Pick.{pick, picked, passed, either}
 use Rattle.lists.specs.Table.{from}
@@ -16,9 +16,8 @@ use Rattle.floats.specs.Remainder.{remEuclid}
 use Rattle.floats.specs.Word.{product}
 use Rattle.draws.specs.Draws.{mixOf, keyOf, randomOf}
 use Rattle.elementary.specs.Rung.{rungOf, digitsOf}
-use Rattle.elementary.specs.Sqrt.{Nearest, nearestRoot, scaledOf, rootBits, sqrtOf}
+use Rattle.elementary.specs.Sqrt.{scaledOf, rootBits, sqrtOf}
 use Rattle.elementary.proofs.Squares.{root-is, perfect}
-use Rattle.pitch.specs.Octave.{asFloat, minusNil}
 use Rattle.pitch.specs.Register.{nil}
 use Rattle.pitch.specs.Partials.{countOf, keptOf, allowedOf, sumOf, harmonicFrom, harmonicOf, withoutOf, drawnFrom, drawnOf, partialsOf}
 use Rattle.pitch.proofs.Harmonics.{no-room}
@@ -26,7 +25,7 @@ use Rattle.settings.specs.Mending.{finiteOr, phaseOf}
 use Rattle.state.specs.declared.Engine.{Engine}
 use Rattle.engine.specs.Calls.{retiredAll, aligned, soughtPhase, soughtOf}
 use Rattle.windows.specs.Opening.{cubic, taperOf, insideOf, opennessOf}
-use Rattle.promises.specs.Marked.{Value, whole, float, picks, window, marked, Same}
+use Rattle.promises.specs.Marked.{whole, float, picks, window, marked, Same}
 
 mixed : mixOf 0 ≡ 0
 unfolding mixOf product

@@ -1,11 +1,11 @@
 -- No call but an accepted frame frees: the acts of every other call are quiet.
-use Prim.Native.Nat.{ℕ, zero, suc, _+_, _^_}
+use Prim.Native.Nat.{ℕ, zero, suc, _+_}
 use mathlib.Core.Path.{_≡_, refl, sym, ap, _∙_, subst}
 use mathlib.Core.Bool.{Bool, true, false, _&&_}
 use mathlib.Core.List.{List, [], _∷_, _++_}
 use lib.Dec.{T}
 use lib.Ieee.{Float}
-use Rattle.lists.specs.Pick.{pick, picked, passed, either, by-case}
+use Rattle.lists.specs.Pick.{picked, passed, either, by-case}
 use Rattle.lists.specs.Times.{iterate}
 use Rattle.refusals.specs.declared.Answer.{Answer}
 use Rattle.refusals.specs.declared.Answer.the-variants.{Taken, Refused}
@@ -22,7 +22,7 @@ use Rattle.frame.specs.Frame.{accepted}
 use Rattle.runs.specs.Acts.{Act, birth, retire, retireBound, retune, frame, source, streams, next, clock, weights, settings, act, triedActs, laneActs, shapeActs, deliverActs, sampleActs, advanceActs, restartActs, weighActs, switchActs, offsetActs, configureActs, checkedActs, triggerActs, Call, configure, noteInput, setSource, retireSource, releaseSource, trigger, reserve, reserved, seek, advance, takeFrame, actsOf}
 use Rattle.promises.specs.Life.{Life, Fate, living, freed, due, told, onward, story}
 use Rattle.promises.specs.Demand3.{DueFrame}
-use Rattle.promises.proofs.Stories.{not-living, frame-due, first-due}
+use Rattle.promises.proofs.Stories.{not-living, first-due}
 
 abbrev quiet : Act → Bool
 quiet (frame seconds) = false

@@ -11,7 +11,7 @@ use lib.ListN.{length, getD, set}
 use lib.Seq.{getD-set-same}
 use lib.Ieee.{Float}
 use Rattle.lists.specs.Pick.{pick, picked, passed, by-case}
-use Rattle.lists.specs.First.{first-most, first-is}
+use Rattle.lists.specs.First.{first-is}
 use Rattle.pool.specs.declared.Particle.{Particle}
 use Rattle.pool.specs.declared.Retired.{Retired}
 use Rattle.pool.specs.declared.Retired.the-variants.{Not, At}
@@ -21,7 +21,6 @@ use Rattle.state.specs.State.{grown, withNext, withTally}
 use Rattle.delivery.specs.Birth.{chosenFor, withLast, droppedOne, triedOne, bornOne, voiceFor, newbornFor, settledAt, isBarred, admittedOf, attemptedOf, bornOf}
 use Rattle.frame.specs.Frame.{sweepOne}
 use Rattle.runs.specs.Acts.{Act, birth, retire, retireBound, retune, frame, source, streams, next, clock, weights, settings, act, perform}
-use Rattle.runs.proofs.Every.{in-case}
 use Rattle.promises.specs.Life.{place, Held, permitted, newborn, Life, lifeOf, Fate, living, freed, due, first, retiredAt, told, onward, story}
 use Rattle.promises.specs.Demand3.{Lowest, Born, FirstDue}
 use Rattle.promises.proofs.Lives.{touched, fateOf, touched-told, untouched, due-is, held-below, lowest-is, barred-is, Newly, changed}

@@ -2,7 +2,7 @@
 use Prim.Native.Nat.{ℕ, _-_, _<_}
 use mathlib.Core.Path.{_≡_}
 use mathlib.Core.Logic.{_↔_}
-use mathlib.Core.Bool.{Bool, true, false}
+use mathlib.Core.Bool.{true, false}
 use mathlib.Core.List.{List, _∷_, _++_}
 use lib.Dec.{T}
 use lib.Ieee.{Float, le}
@@ -13,7 +13,7 @@ use Rattle.state.specs.declared.Engine.{Engine}
 use Rattle.state.specs.State.{grown}
 use Rattle.frame.specs.Frame.{elapsedOf, accepted}
 use Rattle.runs.specs.Acts.{Act, birth, frame, act, perform, Call, takeFrame, actsOf}
-use Rattle.promises.specs.Life.{place, Held, permitted, newborn, Life, lifeOf, Fate, living, freed, due, story}
+use Rattle.promises.specs.Life.{place, Held, permitted, newborn, Life, lifeOf, living, freed, due, story}
 
 -- place i is free, and every place below it is held
 abbrev pub Lowest : Engine → ℕ → Type 0

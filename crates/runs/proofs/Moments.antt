@@ -2,27 +2,24 @@
 use Prim.Native.Nat.{ℕ, zero, suc, _+_, _^_, _≤_}
 use native.Mathlib.Nat.{le-refl}
 use native.Mathlib.Omega.{arith}
-use mathlib.Core.Path.{_≡_, refl, sym, ap, _∙_, subst}
-use mathlib.Core.Bool.{Bool, true}
+use mathlib.Core.Path.{_≡_, refl, sym, subst}
+use mathlib.Core.Bool.{true}
 use mathlib.Core.List.{List, [], _∷_, _++_}
 use borrow.Author.Tests.{ltb-false, leb-true}
 use lib.Dec.{T, ltb, leb}
-use lib.ListN.{getD}
 use lib.Ieee.{Float, binary32, fits, lt}
 use lib.Ieee.Scale.{finite}
-use Rattle.lists.specs.Pick.{pick, either}
+use Rattle.lists.specs.Pick.{either}
 use Rattle.lists.specs.Times.{iterate}
 use Rattle.floats.proofs.Rising.{nought}
 use Rattle.pool.specs.Pool.{retireBoundOne, retuneOne}
 use Rattle.refusals.specs.declared.Answer.{Answer}
-use Rattle.refusals.specs.declared.Answer.the-variants.{Taken, Refused}
 use Rattle.settings.specs.declared.Config.{Config}
 use Rattle.settings.specs.declared.Shape.{Shape}
 use Rattle.settings.specs.declared.Shape.the-variants.{Sprinkle, Cloud}
 use Rattle.settings.specs.Mending.{maxHop, checkedOf, mendedOf}
 use Rattle.settings.proofs.Lifetimes as lifetimes
-use Rattle.sources.specs.declared.Source.{Source}
-use Rattle.sources.specs.Sources.{noSource, isPitched, releasedOf}
+use Rattle.sources.specs.Sources.{isPitched}
 use Rattle.state.specs.declared.Engine.{Engine}
 use Rattle.state.specs.State.{withConfig, pastSource}
 use Rattle.delivery.specs.Sample.{triedOf, laneOf, deliveredOf, tickedOf, steppedOf}
@@ -30,7 +27,7 @@ use Rattle.engine.specs.Calls.{retiredAll, reweighed, switched, offset}
 use Rattle.engine.specs.Triggers.{isPermitted, reservedOf}
 use Rattle.frame.specs.Frame.{accepted}
 use Rattle.frame.proofs.Background.{activity-unit}
-use Rattle.runs.specs.Acts.{Act, birth, retire, retireBound, retune, frame, source, streams, next, clock, weights, settings, act, perform, only, triedActs, laneActs, shapeActs, deliverActs, sampleActs, advanceActs, restartActs, weighActs, switchActs, offsetActs, configureActs, checkedActs, triggerActs, reserveAct, Call, configure, noteInput, setSource, retireSource, releaseSource, trigger, reserve, reserved, seek, advance, takeFrame, Typed, actsOf}
+use Rattle.runs.specs.Acts.{Act, birth, retire, retireBound, retune, frame, source, streams, next, clock, weights, settings, act, perform, triedActs, laneActs, shapeActs, deliverActs, sampleActs, advanceActs, restartActs, weighActs, switchActs, offsetActs, configureActs, checkedActs, triggerActs, Call, configure, noteInput, setSource, retireSource, releaseSource, trigger, reserve, reserved, seek, advance, takeFrame, Typed, actsOf}
 use Rattle.runs.proofs.Every.{every-getD, in-case}
 use Rattle.runs.proofs.Births.{delivered-keeps}
 use Rattle.runs.proofs.Joins.{steps-count, grown-small}
@@ -38,8 +35,8 @@ use Rattle.runs.proofs.Sound.{Sound, Settled, Sounding, past-formed}
 use Rattle.runs.proofs.Kept.{held-retire-bound, held-retune-one}
 use Rattle.runs.proofs.Voices.{Formed, pitched-sounds}
 use Rattle.runs.proofs.Chosen.{none-sounding, sound-next, sound-born}
-use Rattle.runs.proofs.Steps.{sound-streams, sound-clock, sound-stepped}
-use Rattle.runs.proofs.Stays.{sound-config, sound-weights, sound-source, sound-mapped, sound-retired, sound-reserved, no-source-formed, permitted-sounding}
+use Rattle.runs.proofs.Steps.{sound-streams, sound-clock}
+use Rattle.runs.proofs.Stays.{sound-config, sound-weights, sound-source, sound-mapped, sound-retired, no-source-formed, permitted-sounding}
 use Rattle.runs.proofs.Frames.{sound-renewed, yes}
 use Rattle.runs.proofs.Performed.{tried, lane-done, deliver-done, weigh-done, switch-done, offset-done, advance-done}
 
