@@ -47,7 +47,7 @@ unfolding heldOf
 all-places e s = length-map (e .particles) _ ∙ s .places
 
 -- ---- the engine
-sound-renewed : (e : Engine) (activity : Float) → Unit activity → Sound e → Sound (renewedOf e (heldOf e) activity)
+pub sound-renewed : (e : Engine) (activity : Float) → Unit activity → Sound e → Sound (renewedOf e (heldOf e) activity)
 unfolding renewedOf
 sound-renewed e activity u s =
     record {
@@ -63,7 +63,7 @@ sound-renewed e activity u s =
       held = all-held e s;
     }
 
-yes : (b : Bool) → b ≡ true → T b
+pub yes : (b : Bool) → b ≡ true → T b
 yes b e = subst T (sym e) tt
 
 pub sound-framed : (e : Engine) (binHz seconds : Float) → T (fits binary32 seconds) → Sound e → Sound (framedOf e binHz seconds .engine)

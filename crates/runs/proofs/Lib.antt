@@ -1,10 +1,11 @@
 pub mod Births
-pub mod Joins
-pub mod Voices
-pub mod Sound
 pub mod Chosen
-pub mod Steps
-pub mod Kept
-pub mod Stays
 pub mod Frames
+pub mod Joins
+pub mod Kept
+pub mod Moments
 pub mod Performed
+pub mod Sound
+pub mod Stays
+pub mod Steps
+pub mod Voices

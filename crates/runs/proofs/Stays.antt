@@ -41,7 +41,7 @@ use Rattle.runs.proofs.Chosen.{sound-next, sound-particles, sound-born}
 use Rattle.runs.proofs.Steps.{sound-streams, sound-clock}
 
 -- ---- one group
-sound-config : (e : Engine) (c : Config) → Sound e → Settled c → Sound (withConfig e c)
+pub sound-config : (e : Engine) (c : Config) → Sound e → Settled c → Sound (withConfig e c)
 sound-config e c s h =
     record {
       made = s .made;
@@ -56,7 +56,7 @@ sound-config e c s h =
       held = s .held;
     }
 
-sound-weights : (e : Engine) (ws : List Float) → Sound e → Sound (withWeights e ws)
+pub sound-weights : (e : Engine) (ws : List Float) → Sound e → Sound (withWeights e ws)
 sound-weights e ws s =
     record {
       made = s .made;
@@ -71,7 +71,7 @@ sound-weights e ws s =
       held = s .held;
     }
 
-sound-source : (e : Engine) (slot : ℕ) (x : Source) → Formed x → Sound e → Sound (withSource e slot x)
+pub sound-source : (e : Engine) (slot : ℕ) (x : Source) → Formed x → Sound e → Sound (withSource e slot x)
 sound-source e slot x f s =
     record {
       made = s .made;
@@ -87,12 +87,12 @@ sound-source e slot x f s =
     }
 
 -- ---- every place by one function
-sound-mapped : (e : Engine) (g : Particle → Particle) → Sound e → ((p : Particle) → Held (e .clock .sample) p → Held (e .clock .sample) (g p)) → Sound (withParticles e (map g (e .particles)))
+pub sound-mapped : (e : Engine) (g : Particle → Particle) → Sound e → ((p : Particle) → Held (e .clock .sample) p → Held (e .clock .sample) (g p)) → Sound (withParticles e (map g (e .particles)))
 sound-mapped e g s h =
     sound-particles e (map g (e .particles)) s (length-map (e .particles) g ∙ s .places)
     (every-map (Held (e .clock .sample)) (Held (e .clock .sample)) g h (e .particles) (s .held))
 
-sound-retired : (e : Engine) → Sound e → Sound (retiredAll e)
+pub sound-retired : (e : Engine) → Sound e → Sound (retiredAll e)
 unfolding retiredAll
 sound-retired e s = sound-mapped e _ s (held-retire-one (e .clock .sample))
 
@@ -101,7 +101,7 @@ default-mended : defaultConfig ≡ mendedOf defaultConfig
 unfolding mendedOf heldTo finiteOr phaseOf partialsOf remEuclid clamp rem add sum round ofBits lt eq abs pick
 default-mended = refl
 
-no-source-formed : Formed noSource
+pub no-source-formed : Formed noSource
 no-source-formed = record { hz = ofBits-fits binary32 0; strength = ofBits-fits binary32 0 }
 
 sound-on : (p : Prepared) → Made p → Sound (newOn p)
@@ -199,7 +199,7 @@ pub sound-reserved : (e : Engine) → Sound e → Sound (reservedOf e .engine)
 unfolding reservedOf
 sound-reserved e s = sound-next e _ s (s .last)
 
-permitted-sounding : (e : Engine) (slot : ℕ) → isPermitted e slot ≡ true → Sounding (e .sources) slot
+pub permitted-sounding : (e : Engine) (slot : ℕ) → isPermitted e slot ≡ true → Sounding (e .sources) slot
 unfolding isPermitted
 permitted-sounding e slot h l = both (isSprinkle (e .config .shape)) _ (both (e .config .enabled) _ h .1) .1
 
