@@ -4,8 +4,8 @@ use mathlib.Core.Path.{_≡_, refl, sym, _∙_}
 use mathlib.Core.List.{List}
 use native.Mathlib.Nat.{zero-mul, suc-mul, add-comm}
 use native.Mathlib.Omega.{arith}
-use lib.ListN.{length, getD, length-append}
-use lib.Ieee.{Float, nan}
+use lib.ListN.{length, length-append}
+use lib.Ieee.{Float}
 use borrow.Author.Tests.{lt-ltb, le-ltb}
 use Rattle.lists.specs.Pick.{pick}
 use Rattle.text.specs.Put.{Put}
@@ -14,7 +14,6 @@ use Rattle.refusals.specs.declared.Refusal.{Refusal}
 use Rattle.state.specs.declared.Engine.{Engine}
 use Rattle.listing.specs.declared.Ended.{Ended}
 use Rattle.listing.specs.Late.{ranLate}
-use Rattle.replay.specs.Numbers.{countsOf, configOf, preparedOf}
 use Rattle.replay.specs.State.{joined, wordBytes, wordsBytes, harmonicsBytes, streamsBytes, sourcesBytes, particlesBytes, stateBytes}
 use Rattle.replay.specs.Replay.{stateCount, stateLeft}
 
