@@ -3,6 +3,9 @@
 #ifndef RAKNADUV_H
 #define RAKNADUV_H
 
+#include <stddef.h>
+#include <stdint.h>
+
 #ifdef __cplusplus
 extern "C" {
 #endif
@@ -14,6 +17,14 @@ double rk_exp64(double x); /* e to the x */
 float rk_pow8(float x);   /* 8 to the x */
 float rk_pow10(float x);  /* 10 to the x */
 float rk_sqrt(float x);   /* square root, correctly rounded */
+
+/* Runs an event script of `length` bytes. Lent: `out`, of `room` bytes, which must be 2,308 and must
+ * not overlap the script. Answers 0 with the last accepted frame in `out`: 192 windows of centre,
+ * radius and amplitude, then the activity, floats by their bits, the highest byte first; zeros if the
+ * script has no frame. Else answers, in this order, 5 (another room), 12 (above 60,000 bytes) or the
+ * number of the field that went bad (1, 8, 9, 10, 11), and `out` is as it was. docs/HOSTS.md has a
+ * program. */
+uint32_t rk_script(const uint8_t *script, size_t length, uint8_t *out, size_t room);
 
 #ifdef __cplusplus
 }

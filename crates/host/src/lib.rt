@@ -1,8 +1,10 @@
-// What a host in Rust or C may call: the elementary functions, by numbers.
+// What a host in Rust or C may call: the elementary functions on numbers, and a script on lent bytes.
 ghost use Rattle.power64.specs.Exp64 as Exp64;
 ghost use Rattle.elementary.specs.Log2.{log2Of};
 ghost use Rattle.powers.specs.Power as Power;
 ghost use Rattle.elementary.specs.Sqrt.{sqrtOf};
+ghost use Rattle.entry.specs.Entry.{entryAnswer, entryBytes};
+ghost use Rattle.refusals.specs.Numbers.{answerOf};
 ghost use mathlib.Core.Path.{_≡_};
 
 #[no_mangle]
@@ -52,4 +54,14 @@ pub extern "C" fn rk_sqrt(x: f32) -> f32
     ensures { λ r. ⌜ r ≡ sqrtOf x ⌝ }
 {
     elementary::sqrt(x)
+}
+
+// The last accepted frame of a script, in 2,308 lent bytes. 0, or the number of what was wrong; the
+// bytes are then as they were.
+#[no_mangle]
+pub extern "C" fn rk_script(script: &[u8], out: &mut [u8]) -> u32
+    ensures { λ r. ⌜ (r ≡ answerOf (entryAnswer (now (script .entry)) (now (out .entry)))) × (now (out .exit) ≡ entryBytes (now (script .entry)) (now (out .entry))) ⌝ }
+{
+    let answer = entry::last_frame(script, out);
+    refusals::answer_number(answer) as u32
 }
