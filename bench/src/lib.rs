@@ -1,4 +1,7 @@
-//! What the programs here share: the proved functions, linked; the reference; distances.
+//! What the programs here share: the proved functions, linked; the original; the reference;
+//! distances.
+#[cfg(original)]
+pub mod calls;
 pub mod precise;
 pub mod reference;
 pub mod tables;
@@ -12,6 +15,7 @@ mod linked {
         pub fn rk_pow8(x: f32) -> f32;
         pub fn rk_pow10(x: f32) -> f32;
         pub fn rk_sqrt(x: f32) -> f32;
+        pub fn rk_script(script: *const u8, length: usize, out: *mut u8, room: usize) -> u32;
         pub fn rk_probe_gains(
             flat: *const f32,
             flat_len: usize,
@@ -25,6 +29,34 @@ mod linked {
             output_len: usize,
         ) -> u64;
     }
+}
+
+#[cfg(original)]
+mod oiko_dsp {
+    /// 002's, as it stands there.
+    #[inline]
+    pub fn db_to_gain(db: f32) -> f32 {
+        10.0_f32.powf(db / 20.0)
+    }
+}
+
+/// What the original's mask reads of 001's workspace.
+#[cfg(original)]
+pub struct MaskWorkspace {
+    pub bin_log2_hz: Vec<f32>,
+}
+
+/// The original, with std's functions.
+#[cfg(original)]
+#[allow(dead_code)]
+pub mod particles {
+    include!(concat!(env!("OUT_DIR"), "/particles.rs"));
+}
+
+/// The proved engine, run by a script. It answers 01's number for any lengths.
+pub fn script(script: &[u8], out: &mut [u8]) -> u32 {
+    // The slices are apart, and each pointer goes with its own length.
+    unsafe { linked::rk_script(script.as_ptr(), script.len(), out.as_mut_ptr(), out.len()) }
 }
 
 /// The proved mask call. It answers 01's number for any lengths.

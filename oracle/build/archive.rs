@@ -3,19 +3,24 @@
 use std::path::{Path, PathBuf};
 use std::{env, fs};
 
-/// Archive, a name in it, the library to link, and the `cfg` that says so. The probes' archive
-/// stands before the host's, whose functions it may share.
+/// Archive, a name in it, the library to link, and the `cfg` that says so. The probes' archives
+/// stand before the host's, whose functions they may share.
 const FOUND: [(&str, &str, &str, &str); 7] = [
     ("libprobe.a", "rk_probe_floor32", "probe", "probed"),
-    ("libprobe.a", "rk_probe_listing", "probe", "listed"),
-    ("libprobe.a", "rk_probe_state", "probe", "stated"),
+    ("libreplay.a", "rk_probe_listing", "replay", "listed"),
+    ("libreplay.a", "rk_probe_state", "replay", "stated"),
     (
-        "libprobe.a",
+        "libreplay.a",
         "rk_probe_listing_from",
-        "probe",
+        "replay",
         "late_listed",
     ),
-    ("libprobe.a", "rk_probe_state_from", "probe", "late_stated"),
+    (
+        "libreplay.a",
+        "rk_probe_state_from",
+        "replay",
+        "late_stated",
+    ),
     ("libhost.a", "rk_log2", "host", "linked"),
     ("libhost.a", "rk_script", "host", "entry"),
 ];

@@ -50,8 +50,9 @@ impl<W: Write> Sum<'_, W> {
     }
 }
 
-/// Compares with `count` scripts and answers whether nothing differs.
-pub fn compare(count: u64, out: &mut impl Write) -> io::Result<bool> {
+/// Compares with `count` scripts, each as far as a run has at most `limit` steps, and answers whether
+/// nothing differs.
+pub fn compare(count: u64, limit: u64, out: &mut impl Write) -> io::Result<bool> {
     let mut sum = Sum {
         out,
         cases: 0,
@@ -90,7 +91,7 @@ pub fn compare(count: u64, out: &mut impl Write) -> io::Result<bool> {
     } else {
         sum.absent("the float helpers (no libprobe.a)")?;
     }
-    scripts::compare(count, &mut sum)?;
+    scripts::compare(count, limit, &mut sum)?;
     let (cases, differ) = (sum.cases, sum.differ);
     sum.line(&format!("{cases} cases, {differ} differ"))?;
     Ok(sum.differ == 0 && sum.unsound == 0)

@@ -10,7 +10,7 @@ use crate::value::bits32;
 
 pub const GAINS: u64 = 4_000;
 pub const TABLES: u64 = 4_000;
-pub const ATTENUATIONS: u64 = 100_000;
+pub const ATTENUATIONS: u64 = 20_000;
 
 #[cfg(probed)]
 extern "C" {

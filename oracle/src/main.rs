@@ -7,6 +7,7 @@ mod compare;
 mod digest;
 mod draws;
 mod elementary;
+mod ends;
 mod engine;
 mod exact;
 mod field;
@@ -58,7 +59,8 @@ oracle state [HOW] < script       every field of the state by name, after every 
 oracle gen SEED KIND > script     a script
 oracle start SEED KIND            the late start of that script
 oracle kinds                      the kinds of scripts
-oracle compare N                  compares the port with the original; N scripts; status 1 on a difference
+oracle compare N STEPS            compares the port with the original on N scripts, each as far as a run has at
+                                  most so many samples and fields; status 1 on a difference
 oracle calls SEED N               N rounds of single functions of the original, arguments and answers
 oracle masks SEED N               N mask calls, bin tables and attenuations, as short numbers
 oracle stored FOLDER < list       the scripts of a list with their answers; examples stand in FOLDER
@@ -120,11 +122,11 @@ fn command(words: &[&str]) -> io::Result<u8> {
                 writeln!(out, "{:12} {}", kind.name, kind.what)?;
             }
         }
-        ["compare", count] => {
-            let Ok(count) = count.parse() else {
+        ["compare", count, steps] => {
+            let (Ok(count), Ok(steps)) = (count.parse(), steps.parse()) else {
                 return usage();
             };
-            return Ok(u8::from(!compare::compare(count, &mut out)?));
+            return Ok(u8::from(!compare::compare(count, steps, &mut out)?));
         }
         ["calls", seed, rounds] => {
             let (Ok(seed), Ok(rounds)) = (seed.parse(), rounds.parse()) else {

@@ -55,62 +55,50 @@ pub fn last_frame(_: &[u8], _: &mut [u8]) -> Option<u32> {
     None
 }
 
-/// The listing that the port's program prints.
+/// The listing that the port's program prints: its length.
 #[cfg(listed)]
-pub fn listing(script: &[u8], room: usize) -> Option<Vec<u8>> {
-    let mut out = vec![0; room];
-    let used =
-        unsafe { rk_probe_listing(script.as_ptr(), script.len(), out.as_mut_ptr(), out.len()) };
-    out.truncate(used);
-    Some(out)
+pub fn listing(script: &[u8], out: &mut [u8]) -> Option<usize> {
+    let (at, length) = (script.as_ptr(), script.len());
+    Some(unsafe { rk_probe_listing(at, length, out.as_mut_ptr(), out.len()) })
 }
 
 #[cfg(not(listed))]
-pub fn listing(_: &[u8], _: usize) -> Option<Vec<u8>> {
+pub fn listing(_: &[u8], _: &mut [u8]) -> Option<usize> {
     None
 }
 
 /// The state after a script: 8 bytes a value, big-endian, in the order of `oracle state`.
 #[cfg(stated)]
-pub fn state(script: &[u8], room: usize) -> Option<Vec<u8>> {
-    let mut out = vec![0; room];
-    let used =
-        unsafe { rk_probe_state(script.as_ptr(), script.len(), out.as_mut_ptr(), out.len()) };
-    out.truncate(used);
-    Some(out)
+pub fn state(script: &[u8], out: &mut [u8]) -> Option<usize> {
+    let (at, length) = (script.as_ptr(), script.len());
+    Some(unsafe { rk_probe_state(at, length, out.as_mut_ptr(), out.len()) })
 }
 
 #[cfg(not(stated))]
-pub fn state(_: &[u8], _: usize) -> Option<Vec<u8>> {
+pub fn state(_: &[u8], _: &mut [u8]) -> Option<usize> {
     None
 }
 
 /// The listing on an engine that has counted `start` samples and is new otherwise.
 #[cfg(late_listed)]
-pub fn listing_from(start: u64, script: &[u8], room: usize) -> Option<Vec<u8>> {
-    let mut out = vec![0; room];
+pub fn listing_from(start: u64, script: &[u8], out: &mut [u8]) -> Option<usize> {
     let (at, length) = (script.as_ptr(), script.len());
-    let used = unsafe { rk_probe_listing_from(start, at, length, out.as_mut_ptr(), room) };
-    out.truncate(used);
-    Some(out)
+    Some(unsafe { rk_probe_listing_from(start, at, length, out.as_mut_ptr(), out.len()) })
 }
 
 #[cfg(not(late_listed))]
-pub fn listing_from(_: u64, _: &[u8], _: usize) -> Option<Vec<u8>> {
+pub fn listing_from(_: u64, _: &[u8], _: &mut [u8]) -> Option<usize> {
     None
 }
 
 /// The state on an engine that has counted `start` samples and is new otherwise.
 #[cfg(late_stated)]
-pub fn state_from(start: u64, script: &[u8], room: usize) -> Option<Vec<u8>> {
-    let mut out = vec![0; room];
+pub fn state_from(start: u64, script: &[u8], out: &mut [u8]) -> Option<usize> {
     let (at, length) = (script.as_ptr(), script.len());
-    let used = unsafe { rk_probe_state_from(start, at, length, out.as_mut_ptr(), room) };
-    out.truncate(used);
-    Some(out)
+    Some(unsafe { rk_probe_state_from(start, at, length, out.as_mut_ptr(), out.len()) })
 }
 
 #[cfg(not(late_stated))]
-pub fn state_from(_: u64, _: &[u8], _: usize) -> Option<Vec<u8>> {
+pub fn state_from(_: u64, _: &[u8], _: &mut [u8]) -> Option<usize> {
     None
 }

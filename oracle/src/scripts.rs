@@ -2,18 +2,21 @@
 use crate::bytes::{last_frame, SIZE};
 use crate::compare::Sum;
 use crate::draws::Draws;
+use crate::ends::{ends, up_to, within, End};
 use crate::engine::Particles;
-use crate::field::read;
 use crate::gen::{script, KINDS};
 use crate::listing::listing;
 use crate::original::Engine;
-use crate::runner::run;
+use crate::runner::{run, SCRIPT_LIMIT};
 use crate::value::Value;
 use crate::{late, plain, port};
 use std::io::{self, Write};
 
 /// So many scripts also run with std's functions, to show what the substitution changes.
 const PLAIN: u64 = 300;
+
+/// What lent bytes begin as: no listing has it, and neither has a frame or a state throughout.
+const UNTOUCHED: u8 = 0xa5;
 
 /// What the port answers on scripts: how often it was asked, and where it differs.
 struct Part {
@@ -43,36 +46,108 @@ impl Part {
     }
 }
 
-pub fn compare<W: Write>(count: u64, sum: &mut Sum<W>) -> io::Result<()> {
+/// How many scripts were compared, how many of them with the state after every field, and how many up
+/// to the field at which a run would have more steps than the limit.
+#[derive(Default)]
+struct Runs {
+    compared: u64,
+    every: u64,
+    cut: u64,
+}
+
+/// One start of the scripts: the listing and the states.
+struct Started {
+    listed: Part,
+    stated: Part,
+    runs: Runs,
+}
+
+impl Started {
+    /// Compares as much of a script as the limit allows, and answers the ends of its fields.
+    fn compare(&mut self, name: &str, start: u64, script: &[u8], limit: u64) -> Ends {
+        let all = ends(start, script);
+        let ends = up_to(limit, &all);
+        let cut = ends.len() < all.len();
+        let script = match ends.last() {
+            Some(end) if cut => &script[..end.bytes],
+            _ => script,
+        };
+        let mut d = Draws::new(start ^ script.len() as u64, "ends");
+        let chosen = within(limit, ends, &mut d);
+        self.runs.compared += 1;
+        self.runs.every += u64::from(!cut && chosen.len() == ends.len());
+        self.runs.cut += u64::from(cut);
+        self.listed.add(name, listing_same(start, script));
+        for (end, want) in chosen.iter().zip(states(start, script, &chosen)) {
+            let name = format!("{name}, first {} bytes", end.bytes);
+            let same = state_same(start, &script[..end.bytes], Some(&want));
+            self.stated.add(&name, same);
+        }
+        if run::<Engine>(start, script, |_, _, _| {}).is_err() {
+            self.stated.add(name, state_same(start, script, None));
+        }
+        Ends {
+            whole: script.len(),
+            fields: ends.to_vec(),
+        }
+    }
+}
+
+/// Where the part of a script that was compared ends, and where its fields do.
+struct Ends {
+    whole: usize,
+    fields: Vec<End>,
+}
+
+/// Compares `count` scripts, each as far as a run has at most `limit` steps.
+pub fn compare<W: Write>(count: u64, limit: u64, sum: &mut Sum<W>) -> io::Result<()> {
     let mut entry = Part::new("the script entry rk_script", port::ENTRY);
-    let mut listed = Part::new("the listing rk_probe_listing", port::LISTED);
-    let mut stated = Part::new("the state rk_probe_state", port::STATED);
-    let mut late_listed = Part::new("the listing rk_probe_listing_from", port::LATE_LISTED);
-    let mut late_stated = Part::new("the state rk_probe_state_from", port::LATE_STATED);
+    let mut new = Started {
+        listed: Part::new("the listing rk_probe_listing", port::LISTED),
+        stated: Part::new("the state rk_probe_state", port::STATED),
+        runs: Runs::default(),
+    };
+    let mut late = Started {
+        listed: Part::new("the listing rk_probe_listing_from", port::LATE_LISTED),
+        stated: Part::new("the state rk_probe_state_from", port::LATE_STATED),
+        runs: Runs::default(),
+    };
     let mut same_plain = 0;
     for n in 0..count {
         let kind = &KINDS[(n % KINDS.len() as u64) as usize];
         let seed = n / KINDS.len() as u64;
         let bytes = script(seed, kind);
         let name = format!("gen {seed} {}", kind.name);
-        if port::LISTED || n < PLAIN {
-            let ours = listing::<Engine>(0, &bytes);
-            let theirs = port::listing(&bytes, ours.len() + 100);
-            listed.add(&name, theirs.map(|text| text == ours.as_bytes()));
-            same_plain += u64::from(n < PLAIN && listing::<plain::Engine>(0, &bytes) == ours);
+        if n < PLAIN {
+            let plain = listing::<plain::Engine>(0, &bytes);
+            same_plain += u64::from(plain == listing::<Engine>(0, &bytes));
         }
-        // A shorter script shows a frame and the state in the middle.
-        for end in ends(&bytes, n) {
+        let found = new.compare(&name, 0, &bytes, limit);
+        // A shorter script shows a frame in the middle.
+        let some = match found.fields.as_slice() {
+            [] => 0,
+            fields => Draws::new(n, "ends").pick(fields).bytes,
+        };
+        for end in [found.whole, some] {
             let name = format!("{name}, first {end} bytes");
             entry.add(&name, entry_same(&bytes[..end]));
-            stated.add(&name, state_same(&bytes[..end]));
         }
         let start = late::start(seed, &bytes);
         let name = format!("{name}, from {start}");
-        late_listed.add(&name, late_listing_same(start, &bytes));
-        late_stated.add(&name, late_state_same(start, &bytes));
+        late.compare(&name, start, &bytes, limit);
     }
-    for part in [entry, listed, stated, late_listed, late_stated] {
+    for (what, runs) in [("new engines", &new.runs), ("late starts", &late.runs)] {
+        let Runs {
+            compared,
+            every,
+            cut,
+        } = runs;
+        sum.line(&format!(
+            "on {what} {compared} scripts: {every} with the state after every field, {cut} cut \
+             where a run would have more than {limit} samples and fields"
+        ))?;
+    }
+    for part in [entry, new.listed, new.stated, late.listed, late.stated] {
         if part.here {
             sum.part(part.name, part.cases, &part.differing)?;
         } else {
@@ -85,57 +160,66 @@ pub fn compare<W: Write>(count: u64, sum: &mut Sum<W>) -> io::Result<()> {
     ))
 }
 
-/// The entry's answer and bytes. The bytes begin as what no frame has; at times one is lacking.
+/// Whether a call that fills lent bytes answers `text`'s length and writes it at their start; with no
+/// text, or one byte less than `room`, it answers 0 and leaves them.
+fn filled(
+    room: usize,
+    script: &[u8],
+    text: Option<&[u8]>,
+    call: impl FnOnce(&mut [u8]) -> Option<usize>,
+) -> Option<bool> {
+    let short = script.len() % 50 == 7;
+    let mut got = vec![UNTOUCHED; room - usize::from(short)];
+    let mut want = got.clone();
+    let text = if short { &[] } else { text.unwrap_or(&[]) };
+    want[..text.len()].copy_from_slice(text);
+    Some(call(&mut got)? == text.len() && got == want)
+}
+
+/// The entry's answer and bytes.
 fn entry_same(script: &[u8]) -> Option<bool> {
     let room = SIZE - usize::from(script.len() % 50 == 7);
-    let (mut want, mut got) = (vec![0xa5; room], vec![0xa5; room]);
+    let (mut want, mut got) = (vec![UNTOUCHED; room], vec![UNTOUCHED; room]);
     let answer = port::last_frame(script, &mut got)?;
     Some(answer == last_frame::<Engine>(script, &mut want) && got == want)
 }
 
-/// The state after a script that is read to its end.
-fn state_same(script: &[u8]) -> Option<bool> {
-    if !port::STATED {
-        return None;
-    }
-    let want = state_bytes(0, script)?;
-    Some(port::state(script, want.len())? == want)
-}
-
 /// The listing of a script on an engine that has counted `start` samples.
-fn late_listing_same(start: u64, script: &[u8]) -> Option<bool> {
-    if !port::LATE_LISTED {
-        return None;
-    }
+fn listing_same(start: u64, script: &[u8]) -> Option<bool> {
     let want = listing::<Engine>(start, script);
-    Some(port::listing_from(start, script, want.len() + 100)? == want.as_bytes())
+    // What the port wants: a field of three bytes has a line of at most 204, and one line ends it.
+    let room = match script.len() {
+        0..=SCRIPT_LIMIT => 68 * script.len() + 204,
+        _ => 204,
+    };
+    filled(room, script, Some(want.as_bytes()), |out| match start {
+        0 => port::listing(script, out),
+        _ => port::listing_from(start, script, out),
+    })
 }
 
-/// The state after a script on an engine that has counted `start` samples.
-fn late_state_same(start: u64, script: &[u8]) -> Option<bool> {
-    if !port::LATE_STATED {
-        return None;
-    }
-    let want = state_bytes(start, script)?;
-    Some(port::state_from(start, script, want.len())? == want)
+/// The state after a script, or nothing where it goes bad.
+fn state_same(start: u64, script: &[u8], want: Option<&[u8]>) -> Option<bool> {
+    filled(STATE_SIZE, script, want, |out| match start {
+        0 => port::state(script, out),
+        _ => port::state_from(start, script, out),
+    })
 }
 
-/// The original's state as the port hands it over.
-fn state_bytes(start: u64, script: &[u8]) -> Option<Vec<u8>> {
-    let ended = run::<Engine>(start, script, |_, _, _| {}).ok()?;
-    let mut bytes = Vec::new();
-    let mut see = |_, _, _, value: Value| bytes.extend(value.code().to_be_bytes());
-    ended.engine.visit(&mut see);
-    Some(bytes)
-}
+/// The values of the original's state, as the port hands them over.
+const STATE_SIZE: usize = 8 * 1_772;
 
-/// The end of the script and the end of some field in it.
-fn ends(script: &[u8], n: u64) -> [usize; 2] {
-    let mut ends = vec![script.len()];
-    let mut rest = script;
-    while let Ok((_, next)) = read(rest, rest.len() == script.len()) {
-        rest = next;
-        ends.push(script.len() - rest.len());
-    }
-    [script.len(), Draws::new(n, "ends").pick(&ends)]
+/// The original's state after each of these fields.
+fn states(start: u64, script: &[u8], ends: &[End]) -> Vec<Vec<u8>> {
+    let mut fields = ends.iter().map(|end| end.field).peekable();
+    let mut states = Vec::new();
+    let _ = run(start, script, |field, _, engine: &Engine| {
+        if fields.next_if_eq(&field).is_some() {
+            let mut bytes = Vec::new();
+            let mut see = |_, _, _, value: Value| bytes.extend(value.code().to_be_bytes());
+            engine.visit(&mut see);
+            states.push(bytes);
+        }
+    });
+    states
 }

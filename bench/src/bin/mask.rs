@@ -1,35 +1,13 @@
-//! The time of a mask call against the original's, on the same frames in one run: 8,193 bins, the
-//! least of many passes. The port's time has its answer's checks and the frame's copy in it.
-#[cfg(original)]
-mod oiko_dsp {
-    /// 002's, as it stands there.
-    #[inline]
-    pub fn db_to_gain(db: f32) -> f32 {
-        10.0_f32.powf(db / 20.0)
-    }
-}
-
-#[cfg(original)]
-#[allow(dead_code)]
-mod particles {
-    include!(concat!(env!("OUT_DIR"), "/particles.rs"));
-}
-
-/// What the original's mask reads of 001's workspace.
-#[cfg(original)]
-pub struct MaskWorkspace {
-    bin_log2_hz: Vec<f32>,
-}
-
+//! The time of a mask call against the original's, on the same frames in one run: the least of many
+//! passes. The port's time has its answer's checks and the frame's copy in it.
 #[cfg(original)]
 mod measured {
-    use crate::particles::{Frame, Mask, Window};
-    use crate::MaskWorkspace;
     use raknaduv_bench::gains as ours;
+    use raknaduv_bench::particles::{Frame, Mask, Window};
+    use raknaduv_bench::MaskWorkspace;
     use std::hint::black_box;
     use std::time::Instant;
 
-    const BINS: usize = 8193;
     const PASSES: usize = 400;
 
     /// Microseconds of the quickest pass.
@@ -66,9 +44,10 @@ mod measured {
         frame
     }
 
-    pub fn run() {
-        let bin_hz = 48_000.0 / 16_384.0;
-        let logs: Vec<f32> = (0..BINS)
+    /// One call at 48 kHz, with so many bins and windows.
+    fn row(bins: usize, windows: usize) {
+        let bin_hz = 48_000.0 / (2 * (bins - 1)) as f32;
+        let logs: Vec<f32> = (0..bins)
             .map(|bin| {
                 if bin == 0 {
                     0.0
@@ -80,41 +59,47 @@ mod measured {
         let workspace = MaskWorkspace {
             bin_log2_hz: logs.clone(),
         };
-        for (windows, bar) in [(0, 0.15), (16, 0.4), (64, 0.7), (192, 0.9)] {
-            let frame = frame(windows);
-            let flat: Vec<f32> = frame
-                .windows
-                .iter()
-                .flat_map(|w| [w.center_log2_hz, w.radius_octaves, w.amplitude])
-                .collect();
-            let (mut mask, mut theirs) = (Mask::new(BINS), vec![0.0; BINS]);
-            let (mut scratch, mut output) = (vec![0.0; BINS], vec![0.0; BINS]);
-            let a = least(|| {
-                let answer = ours(
-                    black_box(&flat),
-                    frame.activity,
-                    36.0,
-                    &logs,
-                    &mut scratch,
-                    &mut output,
-                );
-                assert_eq!(answer, 0);
-                black_box(&output);
-            });
-            let b = least(|| {
-                mask.gains(black_box(&frame), 36.0, &workspace, &mut theirs);
-                black_box(&theirs);
-            });
-            let apart = output
-                .iter()
-                .zip(&theirs)
-                .map(|(x, y)| (x - y).abs())
-                .fold(0.0, f32::max);
-            assert!(apart < 1e-6, "gains {apart} apart");
-            println!(
-                "gains, {windows:3} windows   {a:7.2} us, Rust {b:7.2} us, ratio {:5.2} (bar {bar})",
-                a / b
+        let frame = frame(windows);
+        let flat: Vec<f32> = frame
+            .windows
+            .iter()
+            .flat_map(|w| [w.center_log2_hz, w.radius_octaves, w.amplitude])
+            .collect();
+        let (mut mask, mut theirs) = (Mask::new(bins), vec![0.0; bins]);
+        let (mut scratch, mut output) = (vec![0.0; bins], vec![0.0; bins]);
+        let a = least(|| {
+            let answer = ours(
+                black_box(&flat),
+                frame.activity,
+                36.0,
+                &logs,
+                &mut scratch,
+                &mut output,
             );
+            assert_eq!(answer, 0);
+            black_box(&output);
+        });
+        let b = least(|| {
+            mask.gains(black_box(&frame), 36.0, &workspace, &mut theirs);
+            black_box(&theirs);
+        });
+        let apart = output
+            .iter()
+            .zip(&theirs)
+            .map(|(x, y)| (x - y).abs())
+            .fold(0.0, f32::max);
+        assert!(apart < 1e-6, "gains {apart} apart");
+        println!(
+            "gains, {bins} bins, {windows:3} windows   {a:7.2} us, Rust {b:7.2} us, ratio {:5.2}",
+            a / b
+        );
+    }
+
+    pub fn run() {
+        for bins in [4_097, 8_193] {
+            for windows in [0, 16, 64, 192] {
+                row(bins, windows);
+            }
         }
     }
 }

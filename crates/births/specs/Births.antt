@@ -5,15 +5,15 @@ use mathlib.Core.List.{List, [], _∷_}
 use lib.Ieee.{Float, binary32, binary64, toUnsigned}
 use Rattle.floats.specs.Names.{f32, f64, add32, sub32, mul32, div32, div64}
 use Rattle.floats.specs.Choose.{min, clamp}
-use Rattle.floats.specs.Convert.{convert}
+use Rattle.casts.specs.Convert.{convert}
 use Rattle.floats.specs.Whole.{floor}
 use Rattle.draws.specs.Draws.{randomOf}
 use Rattle.elementary.specs.Log2.{log2Of}
-use Rattle.elementary.specs.Power.{exp2, pow8}
+use Rattle.powers.specs.Power.{exp2, pow8}
 use Rattle.pitch.specs.declared.Register.{Register}
 use Rattle.pitch.specs.Cloud.{frequencyOf}
 use Rattle.pitch.specs.Octave.{registerOf}
-use Rattle.pitch.specs.Partials.{partialsOf}
+use Rattle.harmonics.specs.Partials.{partialsOf}
 use Rattle.pitch.specs.Register as register
 use Rattle.pool.specs.declared.Particle.{Particle}
 use Rattle.pool.specs.declared.Retired.the-variants.{Not}

@@ -20,8 +20,8 @@ use denote.Floats.{passes}
 use Rattle.floats.specs.Word.{product}
 use Rattle.floats.proofs.Order.{lt-values}
 use Rattle.floats.proofs.Rules.{lt→le}
-use Rattle.floats.proofs.Rising.{nought}
-use Rattle.floats.proofs.Mag.{Mag, le-upto}
+use Rattle.floats_laws.proofs.Rising.{nought}
+use Rattle.floats_laws.proofs.Mag.{Mag, le-upto}
 use Rattle.draws.specs.Draws.{mixOf, drawnOf, randomOf}
 
 product-lt : (a b : ℕ) → product a b < 2 ^ 64

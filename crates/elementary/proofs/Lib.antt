@@ -6,13 +6,3 @@ pub mod Squares
 pub mod RootNearest
 pub mod LogRungs
 pub mod LogExact
-pub mod RootRises
-pub mod RootClosest
-pub mod PowerLike
-pub mod Edges
-pub mod PlacedAt
-pub mod PlacedRises
-pub mod PowerTable
-pub mod PowerRises
-pub mod PowerValues
-pub mod Exp64Rises

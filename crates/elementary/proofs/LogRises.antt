@@ -12,9 +12,9 @@ use lib.Count.{trailingZeros}
 use lib.Ieee.{Float, nan, inf, fin, binary32, fits, isNan, lt, eq, le, toBits, round, sum, add, sub, neg, mul, ofInt, ofBits, ofFields, size, span, climb, units, odd}
 use lib.Ieee.Positive.{positive}
 use lib.Ieee.Scale.{finite}
-use Rattle.floats.proofs.PositiveBits.{positive-above, positive-under}
+use Rattle.floats_laws.proofs.PositiveBits.{positive-above, positive-under}
 use Rattle.floats.proofs.Rules.{between-finite}
-use Rattle.floats.proofs.ToBits.{toBits-mono}
+use Rattle.floats_laws.proofs.ToBits.{toBits-mono}
 use Rattle.elementary.specs.Rung.{rungOf, digitsOf}
 use Rattle.elementary.specs.Log2.{fractionOf, joinedOf, logOf, log2Of}
 use Rattle.elementary.proofs.LogCells.{fraction-mono, fraction-lt}

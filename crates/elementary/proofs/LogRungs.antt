@@ -15,9 +15,9 @@ use lib.Ieee.Exact.{HasValue, round-exact}
 use lib.Ieee.Fits.{add-fits, and-l, and-r, down-pos}
 use lib.Ieee.Order.{le-of-values}
 use lib.Ieee.Scale.{finite, round-same}
-use Rattle.floats.proofs.Rescaled.{powers-join}
+use Rattle.floats_laws.proofs.Rescaled.{powers-join}
 use Rattle.floats.proofs.Rules.{add-number, finite-number, le-trans}
-use Rattle.floats.proofs.Rising.{add-rises}
+use Rattle.floats_laws.proofs.Rising.{add-rises}
 use Rattle.lists.specs.All.{all, all-at}
 
 -- ---- f units of 2^-24, exact

@@ -12,11 +12,11 @@ use lib.Ieee.Bits.{ofBits-toBits}
 use lib.Ieee.Exact.{HasValue}
 use lib.Ieee.Positive.{positive}
 use borrow.Author.Tests.{eqb-true, eqb-false}
-use Rattle.floats.proofs.Naturals.{le-or-lt}
-use Rattle.floats.proofs.Patterns.{val, bits-value}
-use Rattle.floats.proofs.PositiveBits.{positive-above, positive-under}
-use Rattle.floats.proofs.Rescaled.{rescale, one-value, powers-join, powers-move}
-use Rattle.floats.proofs.Values.{unique}
+use Rattle.floats_laws.proofs.Naturals.{le-or-lt}
+use Rattle.floats_laws.proofs.Patterns.{val, bits-value}
+use Rattle.floats_laws.proofs.PositiveBits.{positive-above, positive-under}
+use Rattle.floats_laws.proofs.Rescaled.{rescale, one-value, powers-join, powers-move}
+use Rattle.casts.proofs.Values.{unique}
 use Rattle.elementary.specs.Rung.{rungOf, digitsOf}
 use Rattle.elementary.specs.Sqrt.{Nearest, nearestRoot, scaledOf, rootBits, sqrtOf, Rounded}
 use Rattle.elementary.proofs.Rungs.{amount, Parts, parts}

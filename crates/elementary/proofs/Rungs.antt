@@ -7,8 +7,8 @@ use native.Mathlib.Omega.{arith}
 use lib.Pow.{pow-pos, pow-add, pow-mono, shl-lt}
 use lib.Count.{leadingZeros, leading-top}
 use borrow.Author.Tests.{le-leb, lt-leb}
-use Rattle.floats.proofs.Naturals.{le-or-lt}
-use Rattle.floats.proofs.Patterns.{val, val-mono}
+use Rattle.floats_laws.proofs.Naturals.{le-or-lt}
+use Rattle.floats_laws.proofs.Patterns.{val, val-mono}
 use Rattle.elementary.specs.Rung.{rungOf, digitsOf}
 
 -- the number in units of 2^-149

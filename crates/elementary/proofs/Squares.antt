@@ -8,7 +8,7 @@ use native.Mathlib.Numerals.{add-one}
 use native.Mathlib.Omega.{arith}
 use lib.Dec.{ltb}
 use borrow.Author.Tests.{ltb-true, ltb-false}
-use Rattle.floats.proofs.Naturals.{le-or-lt}
+use Rattle.floats_laws.proofs.Naturals.{le-or-lt}
 use Rattle.elementary.specs.Sqrt.{square, Nearest, middlesBelow, nearestRoot}
 
 -- ---- odd numbers' squares

@@ -1,4 +1,2 @@
 pub mod New
 pub mod Advance
-pub mod Calls
-pub mod Triggers

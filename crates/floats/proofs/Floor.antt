@@ -15,8 +15,8 @@ use lib.Ieee.Scale.{round-same}
 use lib.Ieee.Order as Order
 use lib.Ieee.Order.{drop}
 use Rattle.floats.specs.Whole.{floor, ceil, cut, lift}
-use Rattle.floats.proofs.Sat.{no}
-use Rattle.floats.proofs.Values.{fine, own-round, neg-round}
+use Rattle.casts.proofs.Sat.{no}
+use Rattle.casts.proofs.Values.{fine, own-round, neg-round}
 use Rattle.floats.proofs.Order.{lt-values}
 
 -- ---- quotients

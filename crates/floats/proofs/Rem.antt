@@ -11,8 +11,8 @@ use denote.Floats.{passes}
 use lib.Ieee.Fits.{down-pos, and-l}
 use lib.Ieee.Scale.{round-same}
 use borrow.Author.Tests.{ltb-true}
-use Rattle.floats.proofs.Sat.{no}
-use Rattle.floats.proofs.Values.{own-round}
+use Rattle.casts.proofs.Sat.{no}
+use Rattle.casts.proofs.Values.{own-round}
 
 -- sizes A below B, with the same denominators
 less : (f : Format) (s : Bool) (m : ℕ) (e : ℤ) (t : Bool) (n : ℕ) (d : ℤ) → T (fits f (fin s m e)) → m * up e * down d < n * up d * down e → fin s m e ≡ rem f (fin s m e) (fin t n d)

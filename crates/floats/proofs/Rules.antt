@@ -8,7 +8,7 @@ use lib.Dec.{T, ltb, leb→le, le→leb}
 use lib.Ieee.{Float, nan, inf, fin, Format, up, down, round, sum, add, sub, neg, lt, le, eq, fits, isNan}
 use lib.Ieee.Scale.{finite}
 use lib.Ieee.Bits.{is-true}
-use Rattle.floats.proofs.Facts.{eq-self}
+use Rattle.casts.proofs.Facts.{eq-self}
 use Rattle.floats.proofs.Floor.{round-number, cond-number}
 use Rattle.floats.proofs.Keys.{key, le-key, lt-key}
 

@@ -11,9 +11,9 @@ use Rattle.lists.specs.Pick.{pick}
 use Rattle.lists.specs.Table.{table}
 use Rattle.floats.specs.Names.{f32, f64, add32, sub32, mul32, div32, div64}
 use Rattle.floats.specs.Choose.{max}
-use Rattle.floats.specs.Convert.{convert}
+use Rattle.casts.specs.Convert.{convert}
 use Rattle.elementary.specs.Log2.{log2Of}
-use Rattle.elementary.specs.Power.{exp2, exp}
+use Rattle.powers.specs.Power.{exp2, exp}
 use Rattle.pool.specs.declared.Particle.{Particle}
 use Rattle.pool.specs.declared.Retired.{Retired}
 use Rattle.pool.specs.declared.Retired.the-variants.{Not, At}

@@ -1,7 +1,7 @@
 // What a host in Rust or C may call: the elementary functions on numbers, and a script on lent bytes.
-ghost use Rattle.elementary.specs.Exp64 as Exp64;
+ghost use Rattle.power64.specs.Exp64 as Exp64;
 ghost use Rattle.elementary.specs.Log2.{log2Of};
-ghost use Rattle.elementary.specs.Power as Power;
+ghost use Rattle.powers.specs.Power as Power;
 ghost use Rattle.elementary.specs.Sqrt.{sqrtOf};
 ghost use Rattle.entry.specs.Entry.{entryAnswer, entryBytes};
 ghost use Rattle.refusals.specs.Numbers.{answerOf};

@@ -19,10 +19,10 @@ use Rattle.steps.specs.declared.Run.{Run}
 use Rattle.steps.specs.declared.Reply.{Reply}
 use Rattle.steps.specs.declared.Reply.the-variants as R
 use Rattle.listing.specs.declared.Turn.{Turn}
-use Rattle.steps.specs.Steps.{fresh, stepOf}
-use Rattle.listing.specs.Turns.{refusalOf, repliedOf, afterOf, turnOf, turnsFrom, turnsOf}
-use Rattle.lines.specs.Lines.{textOf, textAll}
-use Rattle.listing.specs.Printed.{linesOf}
+use Rattle.steps.specs.Steps.{stepOf}
+use Rattle.listing.specs.Turns.{refusalOf, repliedOf, afterOf, turnOf, turnsFrom}
+use Rattle.lines.specs.Lines.{textOf}
+use Rattle.listing.specs.Printed.{textFrom}
 
 refusal-taken : (b : Bool) (run : Run) (n k : ℕ) (r : Refusal) (m : ℕ) → k ≤ m → refusalOf b run n k r .taken ≤ m
 refusal-taken true run n k r m h = zero-le
@@ -45,9 +45,6 @@ turn-taken run n s = after-taken run n (readOf s (eqb n 1)) (length s) (taken s 
 pub taken-left : (run : Run) (n at : ℕ) (script : List ℕ) (t : Turn) → t ≡ turnOf run n (drop at script) → t .taken ≤ length script - at
 taken-left run n at script t eq = rw eq (rw length-drop at (turn-taken run n (drop at script)))
 
-abbrev textFrom : ℕ → Run → ℕ → List ℕ → List ℕ
-textFrom f run n s = textAll (linesOf (turnsFrom f run n s))
-
 last : (f : ℕ) (run : Run) (n : ℕ) (s : List ℕ) → turnOf run n s .taken ≡ 0 → textOf (turnOf run n s .line) ≡ textFrom (suc f) run n s
 unfolding turnsFrom
 last f run n s h = rw (eq-eqb _ _ h) (sym (append-nil _))
@@ -58,25 +55,21 @@ unfolding turnsFrom
 more f run n s h = rw (ne-eqb _ _ h)
 
 -- whatever writes the text that is left, writes with what is written the whole text
-abbrev pub Goes : List ℕ → List ℕ → List ℕ → Run → ℕ → ℕ → ℕ → Type 0
-Goes script o₀ out run n at w =
-    (p : List ℕ) (r : ℕ) → Put out p w r (textFrom (length script + 2 - n) run n (drop at script)) → Put o₀ p 0 r (textAll (linesOf (turnsOf script)))
+abbrev pub Goes : List ℕ → List ℕ → ℕ → List ℕ → List ℕ → Run → ℕ → ℕ → ℕ → Type 0
+Goes script o₀ w₀ whole out run n at w =
+    (p : List ℕ) (r : ℕ) → Put out p w r (textFrom (length script + 2 - n) run n (drop at script)) → Put o₀ p w₀ r whole
 
-module _ (script o₀ : List ℕ) where
-  pub start : Goes script o₀ o₀ fresh 1 0 0
-  start p r h = let e : length script + 2 - 1 ≡ length script + 1 = omega arith in rw e at h
+module _ (script o₀ : List ℕ) (w₀ : ℕ) (whole out p : List ℕ) (run : Run) (n at w r : ℕ) (t : Turn) (pos : 0 < n) (few : n ≤ at + 1) (in-s : at ≤ length script)
+    (g : Goes script o₀ w₀ whole out run n at w) (eq : t ≡ turnOf run n (drop at script)) (put : Put out p w r (textOf (t .line))) where
+  fuel : length script + 2 - n ≡ suc (length script + 2 - (n + 1))
+  fuel = omega arith
 
-  module _ (out p : List ℕ) (run : Run) (n at w r : ℕ) (t : Turn) (pos : 0 < n) (few : n ≤ at + 1) (in-s : at ≤ length script)
-      (g : Goes script o₀ out run n at w) (eq : t ≡ turnOf run n (drop at script)) (put : Put out p w r (textOf (t .line))) where
-    fuel : length script + 2 - n ≡ suc (length script + 2 - (n + 1))
-    fuel = omega arith
+  pub stop : t .taken ≡ 0 → Put o₀ p w₀ r whole
+  stop h = g p r (rw fuel (rw (last (length script + 2 - (n + 1)) run n (drop at script) (rw eq at h)) at (rw eq at put)))
 
-    pub stop : t .taken ≡ 0 → Put o₀ p 0 r (textAll (linesOf (turnsOf script)))
-    stop h = g p r (rw fuel (rw (last (length script + 2 - (n + 1)) run n (drop at script) (rw eq at h)) at (rw eq at put)))
-
-    pub go-on : (t .taken ≡ 0 → ⊥) → Goes script o₀ p (t .run) (n + 1) (at + t .taken) r
-    go-on h q u rest =
-        let d = drop at script in
-        let k = turnOf run n d .taken in
-        let one : Put p q r u (textFrom (length script + 2 - (n + 1)) (turnOf run n d .run) (n + 1) (drop k d)) = rw drop-drop (rw eq at rest) in
-        g q u (rw fuel (rw (more (length script + 2 - (n + 1)) run n d (rw eq at h)) at (seq (rw eq at put) one)))
+  pub go-on : (t .taken ≡ 0 → ⊥) → Goes script o₀ w₀ whole p (t .run) (n + 1) (at + t .taken) r
+  go-on h q u rest =
+      let d = drop at script in
+      let k = turnOf run n d .taken in
+      let one : Put p q r u (textFrom (length script + 2 - (n + 1)) (turnOf run n d .run) (n + 1) (drop k d)) = rw drop-drop (rw eq at rest) in
+      g q u (rw fuel (rw (more (length script + 2 - (n + 1)) run n d (rw eq at h)) at (seq (rw eq at put) one)))

@@ -24,7 +24,9 @@ use Rattle.lines.specs.Lines.{textAll}
 use Rattle.lines.proofs.Sizes.{line-size}
 use Rattle.listing.specs.Printed.{linesOf, printed}
 use Rattle.listing.specs.Listed.{roomFor}
+use Rattle.listing.specs.Late.{countedOf, turnsLate, printedLate}
 use Rattle.listing.proofs.Laws.{turn-taken}
+use Rattle.listing.proofs.Late.{at-zero}
 
 refusal-three : (b : Bool) (run : Run) (n k : ℕ) (r : Refusal) → 3 ≤ k → (refusalOf b run n k r .taken ≡ 0 → ⊥) → 3 ≤ refusalOf b run n k r .taken
 refusal-three true run n k r h z = absurd (z refl)
@@ -56,8 +58,21 @@ from-size (suc f) run n s =
     rw (y, length-append)
     (omega (arith, line-size (t .line), turn-taken run n s, turn-three run n s (eqb-false (t .taken) 0 y), length-drop (t .taken) s, from-size f (t .run) (n + 1) (drop (t .taken) s))))
 
-pub size : (s : List ℕ) → length (printed s) ≤ roomFor (length s)
-unfolding printed
-size s =
-    by-case (leb (length s) 60000) (λ y. rw y (from-size (length s + 1) fresh 1 s))
+late-size : (start : ℕ) (s : List ℕ) → length (textAll (linesOf (turnsLate start s))) ≤ 68 * length s + 204
+unfolding turnsLate
+late-size start s =
+    let t = turnOf fresh 1 s in
+    by-case (eqb (t .taken) 0)
+    (λ y. rw (y, length-append) (omega (arith, line-size (t .line))))
+    (λ y.
+    rw (y, length-append)
+    (omega (arith, line-size (t .line), turn-taken fresh 1 s, turn-three fresh 1 s (eqb-false (t .taken) 0 y), length-drop (t .taken) s, from-size (length s) (countedOf start (t .run)) 2 (drop (t .taken) s))))
+
+pub size-late : (start : ℕ) (s : List ℕ) → length (printedLate start s) ≤ roomFor (length s)
+unfolding printedLate
+size-late start s =
+    by-case (leb (length s) 60000) (λ y. rw y (late-size start s))
     (λ y. rw (y, length-append) (omega (arith, line-size (L.Bad 0 Script))))
+
+pub size : (s : List ℕ) → length (printed s) ≤ roomFor (length s)
+size s = rw (at-zero s) at (size-late 0 s)

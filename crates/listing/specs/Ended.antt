@@ -7,18 +7,22 @@ use lib.Dec.{leb}
 use Rattle.refusals.specs.declared.Answer.{Answer}
 use Rattle.refusals.specs.declared.Answer.the-variants.{Taken, Refused}
 use Rattle.refusals.specs.declared.Refusal.the-variants.{Script}
-use Rattle.windows.specs.Opening.{emptyFrame}
+use Rattle.steps.specs.declared.Run.{Run}
 use Rattle.steps.specs.Steps.{fresh}
 use Rattle.lines.specs.declared.Line.{Line}
 use Rattle.lines.specs.declared.Line.the-variants as L
 use Rattle.listing.specs.declared.Turn.{Turn}
 use Rattle.listing.specs.declared.Ended.{Ended}
-use Rattle.listing.specs.Turns.{turnOf, turnsOf}
+use Rattle.listing.specs.Turns.{turnOf, turnsFrom, turnsOf}
 
 -- the last of the turns, t where there is none
 unfoldable pub lastOf : Turn → List Turn → Turn
 lastOf t [] = t
 lastOf t (u ∷ us) = lastOf u us
+
+-- the last of the turns from field n on
+abbrev pub lastFrom : ℕ → Run → ℕ → List ℕ → Turn
+lastFrom f run n s = lastOf (turnOf run n s) (turnsFrom f run n s)
 
 -- a script has one turn at least
 unfoldable pub lastTurn : List ℕ → Turn
@@ -32,8 +36,12 @@ badOf (L.Refused n r) = Taken
 badOf (L.Bad n r) = Refused r
 badOf (L.End n) = Taken
 
-abbrev pub endedOf : Turn → Ended
-endedOf t = record { answer = badOf (t .line); frame = t .run .frame }
+abbrev pub ranTo : Run → Answer → Ended
+ranTo run a = record { answer = a; engine = run .engine; frame = run .frame }
 
+abbrev pub endedOf : Turn → Ended
+endedOf t = ranTo (t .run) (badOf (t .line))
+
+-- a script that is too long is not run
 unfoldable pub ranOf : List ℕ → Ended
-ranOf s = cond (leb (length s) 60000) (endedOf (lastTurn s)) (record { answer = Refused Script; frame = emptyFrame })
+ranOf s = cond (leb (length s) 60000) (endedOf (lastTurn s)) (ranTo fresh (Refused Script))

@@ -5,14 +5,19 @@ use mathlib.Core.List.{List, [], _∷_, map}
 use lib.ListN.{length}
 use lib.Dec.{leb}
 use Rattle.refusals.specs.declared.Refusal.the-variants.{Script}
+use Rattle.steps.specs.declared.Run.{Run}
 use Rattle.lines.specs.declared.Line.{Line}
 use Rattle.lines.specs.declared.Line.the-variants as L
 use Rattle.lines.specs.Lines.{textAll}
 use Rattle.listing.specs.declared.Turn.{Turn}
-use Rattle.listing.specs.Turns.{turnsOf}
+use Rattle.listing.specs.Turns.{turnsFrom, turnsOf}
 
 abbrev pub linesOf : List Turn → List Line
 linesOf ts = map (λ (t : Turn). t .line) ts
+
+-- the text of the turns from field n on
+abbrev pub textFrom : ℕ → Run → ℕ → List ℕ → List ℕ
+textFrom f run n s = textAll (linesOf (turnsFrom f run n s))
 
 -- a script of lawful size prints the lines of its turns; a longer one is not run
 abbrev pub lines : List ℕ → List Line

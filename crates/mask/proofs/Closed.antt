@@ -9,9 +9,9 @@ use lib.Dec.{T, eqb, eqb→eq}
 use lib.Ieee.{Float, nan, inf, fin, binary32, ofBits, up, down, round, add, sub, neg, eq, fits}
 use lib.Ieee as Ieee
 use lib.Ieee.Fits.{up-pos, and-l}
-use Rattle.floats.proofs.Rising.{nought}
-use Rattle.floats.proofs.Units.{one as i, zero-fits}
-use Rattle.floats.proofs.Values.{same-fin}
+use Rattle.floats_laws.proofs.Rising.{nought}
+use Rattle.floats_laws.proofs.Units.{one as i, zero-fits}
+use Rattle.casts.proofs.Values.{same-fin}
 use Rattle.windows.specs.Opening.{nil, one}
 
 at-zero : (s : Bool) → sub binary32 i (fin s 0 (pos 0)) ≡ i

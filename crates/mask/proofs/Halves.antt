@@ -3,7 +3,7 @@ use mathlib.Core.Path.{_≡_, refl, sym, _∙_}
 use mathlib.Core.Bool.{Bool, true, false, cond}
 use Prim.Native.Nat.{ℕ, _+_, _-_, _/_, _≤_, _<_}
 use native.Mathlib.Omega.{arith}
-use Rattle.floats.proofs.Sat.{no}
+use Rattle.casts.proofs.Sat.{no}
 use Rattle.mask.specs.Search.{Falls, First}
 
 -- the invariant: what lies below base passes, and what lies from base + size on fails

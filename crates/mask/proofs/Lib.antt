@@ -1,10 +1,6 @@
 pub mod Closed
-pub mod FullScan
 pub mod Halves
 pub mod Opens
 pub mod Ordered
-pub mod Prepared
 pub mod Raising
 pub mod Ranges
-pub mod Scanned
-pub mod Shut

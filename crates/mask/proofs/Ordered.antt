@@ -13,10 +13,10 @@ use lib.Ieee.Bits.{is-true, is-false}
 use lib.Ieee.Fits.{and-l, and-r}
 use lib.Ieee.Scale.{finite}
 use Rattle.lists.specs.All.{all-at}
-use Rattle.floats.proofs.Rising.{le-refl}
+use Rattle.floats_laws.proofs.Rising.{le-refl}
 use Rattle.floats.proofs.Rules.{le-trans, not-lt→le, finite-number}
-use Rattle.floats.proofs.Through.{le-lt}
-use Rattle.mask.specs.Gains.{lawfulAt, lawfulLogs}
+use Rattle.floats_laws.proofs.Through.{le-lt}
+use Rattle.bin_tables.specs.Logs.{lawfulAt, lawfulLogs}
 use Rattle.mask.specs.Walk.{Sorted}
 
 or-past : (a b : Bool) → a ≡ false → T (a || b) → T b

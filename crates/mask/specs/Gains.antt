@@ -1,31 +1,23 @@
 -- The gains of a mask, line by line as the Rust's `Mask::gains`, with 01's refusals 5 and 6 in this order. Definitions only.
-use Prim.Native.Nat.{ℕ, _-_}
-use mathlib.Core.Bool.{Bool, not, cond, _&&_, _||_}
+use Prim.Native.Nat.{ℕ}
+use mathlib.Core.Bool.{Bool, not, cond, _&&_}
 use mathlib.Core.List.{List}
 use lib.Dec.{eqb, ltb}
 use lib.ListN.{length, getD}
 use lib.Ieee.{Float, nan, neg, lt, le, eq}
-use lib.Ieee.Scale.{finite}
-use Rattle.lists.specs.All.{all}
 use Rattle.lists.specs.Pick.{pick}
 use Rattle.lists.specs.Table.{table}
 use Rattle.lists.specs.Walk.{walk}
 use Rattle.floats.specs.Names.{f32, add32, sub32, mul32}
 use Rattle.floats.specs.Choose.{max, clamp}
-use Rattle.elementary.specs.Power.{dbToGain}
+use Rattle.powers.specs.Power.{dbToGain}
 use Rattle.refusals.specs.declared.Answer.{Answer}
 use Rattle.refusals.specs.declared.Answer.the-variants.{Taken, Refused}
 use Rattle.refusals.specs.declared.Refusal.the-variants.{Lengths, Logs}
 use Rattle.windows.specs.declared.Window.{Window}
 use Rattle.windows.specs.declared.Frame.{Frame}
+use Rattle.bin_tables.specs.Logs.{lawfulLogs}
 use Rattle.windows.specs.Opening.{nil, one, opennessOf}
-
--- ---- 01, refusal 6: a log at bin 1 or above is not finite, or is less than the one before it (from bin 2 on)
-unfoldable pub lawfulAt : List Float → ℕ → Bool
-lawfulAt logs i = (ltb i 1 || finite (getD logs i nan)) && (ltb i 2 || not (lt (getD logs i nan) (getD logs (i - 1) nan)))
-
-unfoldable pub lawfulLogs : List Float → Bool
-lawfulLogs logs = all (lawfulAt logs) (length logs)
 
 -- ---- 01, Mask: a window touches bins from 1 whose log lies from centre - radius to centre + radius, as rounded f32
 unfoldable pub touches : Window → Float → Bool

@@ -1,4 +1,3 @@
-pub mod Bins
 pub mod Gains
 pub mod Search
 pub mod Walk

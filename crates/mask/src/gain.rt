@@ -5,7 +5,8 @@ ghost use lib.ListN.{length, getD};
 ghost use lib.Ieee.{nan};
 ghost use Rattle.lists.specs.Table.{table};
 ghost use Rattle.windows.specs.Opening.{nil};
-ghost use Rattle.mask.specs.Gains.{lawfulLogs, openAt, levelOf, gainOf, gainsOf};
+ghost use Rattle.mask.specs.Gains.{openAt, levelOf, gainOf, gainsOf};
+ghost use Rattle.bin_tables.specs.Logs.{lawfulLogs};
 use refusals::Answer;
 use refusals::Refusal;
 use windows::Frame;
@@ -78,7 +79,7 @@ pub fn gains(
     if output.len() != logs.len() {
         return Answer::Refused(Refusal::Lengths);
     }
-    if crate::logs::lawful(logs) {
+    if bin_tables::lawful(logs) {
         if depth_db <= 0.0 {
             fill(output, 1.0);
             return Answer::Taken;

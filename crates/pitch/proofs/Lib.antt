@@ -1,8 +1,2 @@
 pub mod Logs
 pub mod Walks
-pub mod Ranges
-pub mod Picks
-pub mod Harmonics
-pub mod Octaves
-pub mod Ramp
-pub mod Frequency

@@ -6,7 +6,7 @@ use Rattle.floats.specs.Names.{f32, add32, sub32, mul32, div32}
 use Rattle.floats.specs.Choose.{max, min}
 use Rattle.draws.specs.Draws.{randomOf}
 use Rattle.elementary.specs.Log2.{log2Of}
-use Rattle.elementary.specs.Power.{exp2}
+use Rattle.powers.specs.Power.{exp2}
 use Rattle.elementary.specs.Sqrt.{sqrtOf}
 use Rattle.pitch.specs.Register.{nil, half, one, minHz, fullHz, lowProbability}
 

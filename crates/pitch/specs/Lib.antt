@@ -1,4 +1,3 @@
 pub mod Register
 pub mod Cloud
 pub mod Octave
-pub mod Partials

@@ -1,9 +1,8 @@
 -- Sprinkle's octave, line by line as the Rust's `sprinkle_register`, on words of 32 bits. Definitions only.
 use Prim.Native.Nat.{ℕ, zero, suc, _+_, _%_, _^_}
 use mathlib.Core.Bool.{Bool, true, false, cond}
-use lib.IntN.{pos}
 use lib.Dec.{eqb, ltb}
-use lib.Ieee.{Float, binary32, ofInt, toUnsigned, lt, neg}
+use lib.Ieee.{Float, binary32, toUnsigned, lt}
 use Rattle.lists.specs.Pick.{pick}
 use Rattle.lists.specs.Times.{times}
 use Rattle.floats.specs.Names.{f32, add32, sub32, mul32, div32}
@@ -13,12 +12,9 @@ use Rattle.draws.specs.Draws.{randomOf}
 use Rattle.elementary.specs.Log2.{log2Of}
 use Rattle.settings.specs.declared.Direction.{Direction}
 use Rattle.settings.specs.declared.Direction.the-variants.{Forward, Reverse, Alternate}
+use Rattle.harmonics.specs.Partials.{asFloat, minusNil}
 use Rattle.pitch.specs.declared.Register.{Register}
 use Rattle.pitch.specs.Register.{nil, half, one, minHz, strengthOf, probabilityOf}
-
--- n as f32
-abbrev pub asFloat : ℕ → Float
-asFloat n = ofInt binary32 (pos n)
 
 -- index & 1 == 0 where the direction alternates
 unfoldable pub upwardOf : Direction → ℕ → Bool
@@ -41,10 +37,6 @@ spanOf count = pick (ltb 1 (lastOf count)) (asFloat (lastOf count)) (asFloat 1)
 -- register_probability(root_log + first + i as f32) * tilt, with position = i as f32 / span and low = root_log + first
 unfoldable pub weightOf : Float → Float → Bool → ℕ → Float
 weightOf low span upward i = mul32 (probabilityOf (add32 low (asFloat i))) (tiltOf upward (div32 (asFloat i) span))
-
--- the sum's first summand: Rust's `sum` of floats has begun at -0.0 since 1.83 (before, at 0.0), which no answer here shows
-abbrev pub minusNil : Float
-minusNil = neg nil
 
 -- (0..count).map(weight).sum()
 unfoldable pub totalOf : Float → Float → Bool → ℕ → Float

@@ -2,20 +2,16 @@
 // frequency, Sprinkle's octave, and the harmonics of one particle.
 mod cloud;
 mod octave;
-mod partials;
 mod registers;
 
 pub use cloud::free_cloud_frequency;
+pub use harmonics::select_partials;
 pub use octave::sprinkle_register;
-pub use partials::select_partials;
 pub use registers::register_height;
 pub use registers::register_probability;
 pub use registers::register_strength;
 
 pub const WINDOWS_PER_PARTICLE: usize = 3;
-
-// A draw below the first gives one harmonic, below the second two, else three.
-pub const PARTIAL_COUNT_CUMULATIVE: [f32; 2] = [0.80, 0.97];
 
 // An audible range, so that low registers remain possible.
 pub const PARTICLE_MIN_HZ: f32 = 20.0;

@@ -3,7 +3,7 @@ ghost use mathlib.Core.Path.{_≡_};
 ghost use Prim.Native.Nat.{_<_};
 ghost use lib.ListN.{getD};
 ghost use Rattle.windows.specs.Opening.{nil, taperOf, opennessOf, attenuationOf};
-ghost use Rattle.mask.specs.Bins.{preparedOf};
+ghost use Rattle.bin_tables.specs.Bins.{preparedOf};
 ghost use Rattle.mask.specs.Gains.{gainsOf};
 ghost use Rattle.probe.specs.Frames.{windowAt, frameOf, numbered, numberedBoth};
 use windows::Frame;

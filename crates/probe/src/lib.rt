@@ -1,7 +1,7 @@
 // Single layers handed over on numbers, for the comparison with the Rust alone.
 ghost use Rattle.draws.specs.Draws.{keyOf, mixOf, randomOf, streamOf};
 ghost use Rattle.floats.specs.Choose.{max, min, clamp, abs};
-ghost use Rattle.floats.specs.Convert.{convert};
+ghost use Rattle.casts.specs.Convert.{convert};
 ghost use Rattle.floats.specs.Remainder.{remEuclid};
 ghost use Rattle.floats.specs.Whole.{floor, ceil};
 ghost use Rattle.floats.specs.Names.{f32};
@@ -15,7 +15,7 @@ ghost use Rattle.probe.specs.Numbers.{shapeOf, directionOf, configOf, sa
 ghost use Rattle.pitch.specs.Register.{heightOf, strengthOf, probabilityOf};
 ghost use Rattle.pitch.specs.Cloud.{frequencyOf};
 ghost use Rattle.pitch.specs.Octave.{registerOf};
-ghost use Rattle.pitch.specs.Partials.{partialsOf as partialsBy};
+ghost use Rattle.harmonics.specs.Partials.{partialsOf as partialsBy};
 ghost use Rattle.settings.specs.Mending.{attackOf, releaseMsOf, partialsOf, rolloffOf, rateOf, sizeOf, phaseOf, mendedOf};
 ghost use Rattle.settings.specs.Envelope.{envelopeOf};
 ghost use Rattle.timing.specs.Streams.{preparedOf, alignedOf, referenceOf};

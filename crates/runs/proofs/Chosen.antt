@@ -18,7 +18,7 @@ use Rattle.state.specs.declared.Next.{Next}
 use Rattle.state.specs.declared.Tally.{Tally}
 use Rattle.state.specs.State.{grown, withNext, withParticles, withTally, pastSource}
 use Rattle.delivery.specs.Birth.{chosenFor, withLast, triedOne, bornOne, newbornFor, admittedOf, attemptedOf, bornOf}
-use Rattle.runs.proofs.Every.{Every, every-set, in-case}
+use Rattle.lists.specs.Every.{Every, every-set, in-case}
 use Rattle.runs.proofs.Sound.{Sound, Held, Sounding, engine-newborn}
 
 -- ---- the slot

@@ -7,7 +7,7 @@ use lib.Dec.{T}
 use lib.ListN.{length, getD, length-map}
 use lib.Ieee.{Float, binary32, fits, ofBits}
 use Rattle.lists.specs.Pick.{either, by-case}
-use Rattle.floats.proofs.Unit.{Unit, nought-unit}
+use Rattle.floats_laws.proofs.Unit.{Unit, nought-unit}
 use Rattle.births.specs.Births.{maxHzOf}
 use Rattle.pool.specs.declared.Particle.{Particle}
 use Rattle.pool.specs.Pool.{freeParticle}
@@ -17,15 +17,15 @@ use Rattle.frame.specs.declared.Framed.{Framed}
 use Rattle.frame.specs.declared.Shown.{Shown}
 use Rattle.frame.specs.Frame.{sweepOne, shownOf, windowOf, accepted}
 use Rattle.frame.specs.Call.{heldOf, windowsBy, renewedOf, takenOf, refusedOf, framedOf}
-use Rattle.frame.proofs.Background.{activity-unit}
-use Rattle.frame.proofs.Newborn.{lawful-rated, engine-logs}
-use Rattle.frame.proofs.Places.{window-of-place, free-shows-none}
-use Rattle.frame.proofs.Shapes.{Logs}
-use Rattle.frame.proofs.Windowed.{Good, window-good}
+use Rattle.frame_laws.proofs.Background.{activity-unit}
+use Rattle.frame_laws.proofs.Newborn.{lawful-rated, engine-logs}
+use Rattle.frame_laws.proofs.Places.{window-of-place, free-shows-none}
+use Rattle.frame_laws.proofs.Shapes.{Logs}
+use Rattle.frame_laws.proofs.Windowed.{Good, window-good}
 use Rattle.state.specs.declared.Engine.{Engine}
 use Rattle.state.specs.declared.Prepared.{Prepared}
 use Rattle.state.specs.Make.{partialLogs, preparedOf}
-use Rattle.runs.proofs.Every.{Every, every-map, every-at, in-case}
+use Rattle.lists.specs.Every.{Every, every-map, every-at, in-case}
 use Rattle.runs.proofs.Sound.{Held, Sound}
 
 -- ---- what is left is held
@@ -47,7 +47,7 @@ unfolding heldOf
 all-places e s = length-map (e .particles) _ ∙ s .places
 
 -- ---- the engine
-sound-renewed : (e : Engine) (activity : Float) → Unit activity → Sound e → Sound (renewedOf e (heldOf e) activity)
+pub sound-renewed : (e : Engine) (activity : Float) → Unit activity → Sound e → Sound (renewedOf e (heldOf e) activity)
 unfolding renewedOf
 sound-renewed e activity u s =
     record {
@@ -63,7 +63,7 @@ sound-renewed e activity u s =
       held = all-held e s;
     }
 
-yes : (b : Bool) → b ≡ true → T b
+pub yes : (b : Bool) → b ≡ true → T b
 yes b e = subst T (sym e) tt
 
 pub sound-framed : (e : Engine) (binHz seconds : Float) → T (fits binary32 seconds) → Sound e → Sound (framedOf e binHz seconds .engine)

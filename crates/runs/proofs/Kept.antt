@@ -6,12 +6,12 @@ use lib.Dec.{T}
 use lib.Ieee.{Float, binary32, fits, lt}
 use lib.Ieee.Scale.{finite}
 use Rattle.lists.specs.Pick.{either}
-use Rattle.floats.proofs.Rising.{nought}
+use Rattle.floats_laws.proofs.Rising.{nought}
 use Rattle.pool.specs.declared.Particle.{Particle}
 use Rattle.pool.specs.declared.Retired.{Retired}
 use Rattle.pool.specs.declared.Retired.the-variants.{Not, At}
 use Rattle.pool.specs.Pool.{firstOf, retiredOf, retireOne, retireBoundOne, retunedOf, retuneOne}
-use Rattle.frame.proofs.Windowed.{Fair}
+use Rattle.frame_laws.proofs.Windowed.{Fair}
 use Rattle.runs.proofs.Sound.{Fit, Held}
 
 at-of : (a b : ℕ) → At a ≡ At b → a ≡ b

@@ -16,15 +16,19 @@ use Rattle.settings.specs.declared.Shape.the-variants.{Sprinkle, Cloud}
 use Rattle.settings.specs.Mending.{checkedOf, mendedOf}
 use Rattle.state.specs.declared.Done.{Done}
 use Rattle.state.specs.declared.Engine.{Engine}
-use Rattle.engine.specs.declared.Triggered.{Triggered}
+use Rattle.triggers.specs.declared.Triggered.{Triggered}
 use Rattle.state.specs.State.{withConfig}
 use Rattle.delivery.specs.Birth.{bornOf}
 use Rattle.delivery.specs.Sample.{triedOf, laneOf, lanesOf, cloudOf, byShape, deliveredOf, tickedOf, steppedOf}
 use Rattle.engine.specs.Advance.{advancedOf}
-use Rattle.engine.specs.Calls.{retiredAll, aligned, reweighed, switched, offset, restarted, configuredTo, answeredBy, configuredOf, notesOf, placedOf, setSourceOf, retireSourceOf, releaseSourceOf, soughtOf}
-use Rattle.engine.specs.Triggers.{reservedOf, isPermitted, outcomeOf, triggeredBy, triggeredOf}
+use Rattle.changes.specs.Changes.{retiredAll, aligned, reweighed, switched, offset, restarted, configuredTo, answeredBy, configuredOf, notesOf, soughtOf}
+use Rattle.source_calls.specs.Slots.{placedOf, setSourceOf, retireSourceOf, releaseSourceOf}
+use Rattle.triggers.specs.Triggers.{reservedOf, isPermitted, outcomeOf, triggeredBy, triggeredOf}
 use Rattle.runs.specs.Acts.{Act, act, perform, triedActs, laneActs, shapeActs, deliverActs, sampleActs, advanceActs, restartActs, weighActs, switchActs, offsetActs, configureActs, checkedActs, triggerActs, Call, actsOf, applied}
 use Rattle.runs.specs.Acts as acts
+use Rattle.frame.specs.declared.Framed.{Framed}
+use Rattle.frame.specs.Frame.{accepted}
+use Rattle.frame.specs.Call.{takenOf, refusedOf, framedOf}
 
 -- ---- lists of acts
 pub perform-append : (e : Engine) (xs ys : List Act) → perform e (xs ++ ys) ≡ perform (perform e xs) ys
@@ -48,11 +52,11 @@ answer f e true xs ys a b p q = p
 answer f e false xs ys a b p q = q
 
 -- ---- a sample
-tried : (e : Engine) (lane : ℕ) (reference : Float) → perform e (triedActs e lane reference) ≡ triedOf e lane reference
+pub tried : (e : Engine) (lane : ℕ) (reference : Float) → perform e (triedActs e lane reference) ≡ triedOf e lane reference
 unfolding triedActs triedOf perform act
 tried e lane reference = choice e _ _ _ _ _ refl (choice _ _ _ _ _ _ (choice _ _ _ _ _ _ refl refl) refl)
 
-lane-done : (e : Engine) (lane : ℕ) (reference : Float) → perform e (laneActs e lane reference) ≡ laneOf e lane reference
+pub lane-done : (e : Engine) (lane : ℕ) (reference : Float) → perform e (laneActs e lane reference) ≡ laneOf e lane reference
 unfolding laneActs laneOf
 lane-done e lane reference = then e (triedOf e lane reference) _ _ (tried e lane reference) ∙ tried (triedOf e lane reference) lane reference
 
@@ -65,7 +69,7 @@ shape-done Sprinkle e reference =
     ∙ lane-done (laneOf one 1 reference) 2 reference
 shape-done Cloud e reference = choice e _ _ _ _ _ (choice _ _ _ _ _ _ refl refl) refl
 
-deliver-done : (e : Engine) → perform e (deliverActs e) ≡ deliveredOf e
+pub deliver-done : (e : Engine) → perform e (deliverActs e) ≡ deliveredOf e
 unfolding deliverActs deliveredOf perform
 deliver-done e = choice e _ _ _ _ _ (shape-done (e .config .shape) e _) refl
 
@@ -83,15 +87,15 @@ restart-done : (e : Engine) (old : Config) → perform e (restartActs e old) ≡
 unfolding restartActs restarted aligned perform act
 restart-done e old = choice e _ _ _ _ _ refl (choice e _ _ _ _ _ refl refl)
 
-weigh-done : (e : Engine) (c : Config) → perform e (weighActs e c) ≡ reweighed e c
+pub weigh-done : (e : Engine) (c : Config) → perform e (weighActs e c) ≡ reweighed e c
 unfolding weighActs reweighed perform act
 weigh-done e c = choice e _ _ _ _ _ refl refl
 
-switch-done : (e : Engine) (c : Config) → perform e (switchActs e c) ≡ switched e c
+pub switch-done : (e : Engine) (c : Config) → perform e (switchActs e c) ≡ switched e c
 unfolding switchActs switched perform act
 switch-done e c = choice e _ _ _ _ _ refl refl
 
-offset-done : (e : Engine) (phase : Float) → perform e (offsetActs e phase) ≡ offset e phase
+pub offset-done : (e : Engine) (phase : Float) → perform e (offsetActs e phase) ≡ offset e phase
 unfolding offsetActs offset perform act
 offset-done e phase = choice e _ _ _ _ _ refl refl
 
@@ -127,8 +131,11 @@ trigger-done e slot index =
 abbrev done : Done → Engine
 done d = d .engine
 
+abbrev framed : Framed → Engine
+framed r = r .engine
+
 pub calls-are-acts : (e : Engine) (c : Call) → perform e (actsOf e c) ≡ applied e c
-unfolding actsOf applied perform act configuredOf notesOf setSourceOf placedOf retireSourceOf releaseSourceOf triggeredOf reservedOf soughtOf retiredAll aligned advancedOf
+unfolding actsOf applied perform act configuredOf notesOf setSourceOf placedOf retireSourceOf releaseSourceOf triggeredOf reservedOf soughtOf retiredAll aligned advancedOf framedOf takenOf refusedOf
 calls-are-acts e (acts.configure c) = checked-done (checkedOf c) e c
 calls-are-acts e (acts.noteInput present) = refl
 calls-are-acts e (acts.setSource slot s) = answer done e _ _ _ _ _ (choice e _ _ _ _ _ refl (choice _ _ _ _ _ _ refl refl)) refl
@@ -139,3 +146,4 @@ calls-are-acts e acts.reserve = refl
 calls-are-acts e (acts.reserved slot index) = trigger-done e slot index
 calls-are-acts e (acts.seek cycles) = refl
 calls-are-acts e (acts.advance n) = answer done e _ _ _ _ _ (advance-done n e) refl
+calls-are-acts e (acts.takeFrame binHz seconds) = answer framed e (accepted seconds) _ _ _ _ refl refl

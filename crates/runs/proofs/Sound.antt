@@ -9,10 +9,10 @@ use lib.Dec.{T, ltb, lit≤}
 use lib.ListN.{length, getD}
 use lib.Ieee.{Float, binary32, fits, lt, le}
 use Rattle.lists.specs.Pick.{either, by-case}
-use Rattle.floats.proofs.Rising.{nought}
+use Rattle.floats_laws.proofs.Rising.{nought}
 use Rattle.births.specs.declared.Voice.{Voice}
 use Rattle.births.specs.Births.{rate32, partialsBy, freeVoiceOf, sourceVoiceOf, newbornOf}
-use Rattle.pitch.proofs.Harmonics.{Picks, picks-lawful}
+use Rattle.pitch_laws.proofs.Harmonics.{Picks, picks-lawful}
 use Rattle.pool.specs.declared.Particle.{Particle}
 use Rattle.pool.specs.declared.Retired.{Retired}
 use Rattle.pool.specs.declared.Retired.the-variants.{Not, At}
@@ -21,20 +21,20 @@ use Rattle.settings.specs.declared.Shape.{Shape}
 use Rattle.settings.specs.declared.Shape.the-variants.{Sprinkle, Cloud}
 use Rattle.settings.specs.Envelope.{envelopeOf}
 use Rattle.settings.specs.Mending.{maxHop, lawfulRate, mendedOf}
-use Rattle.settings.proofs.Lifetimes as lifetimes
-use Rattle.settings.proofs.Lifetimes.{ten, envelope-sound}
+use Rattle.settings_laws.proofs.Lifetimes as lifetimes
+use Rattle.settings_laws.proofs.Lifetimes.{ten, envelope-sound}
 use Rattle.sources.specs.declared.Source.{Source}
 use Rattle.sources.specs.Sources.{isEligible}
-use Rattle.frame.proofs.Newborn.{Voiced, newborn-fair}
-use Rattle.frame.proofs.Windowed.{Fair}
-use Rattle.floats.proofs.Unit.{Unit}
+use Rattle.frame_laws.proofs.Newborn.{Voiced, newborn-fair}
+use Rattle.frame_laws.proofs.Windowed.{Fair}
+use Rattle.floats_laws.proofs.Unit.{Unit}
 use Rattle.state.specs.declared.Engine.{Engine}
 use Rattle.state.specs.State.{pastSource}
 use Rattle.state.specs.declared.Prepared.{Prepared}
 use Rattle.delivery.specs.Birth.{voiceFor, newbornFor}
 use Rattle.state.specs.Make.{preparedOf}
-use Rattle.runs.proofs.Every.{Every, every-getD, in-case}
-use Rattle.runs.proofs.Fitting.{own-convert}
+use Rattle.lists.specs.Every.{Every, every-getD, in-case}
+use Rattle.floats_laws.proofs.Fitting.{own-convert}
 use Rattle.runs.proofs.Voices.{Formed, source-voiced, free-voiced}
 
 -- ---- the terms

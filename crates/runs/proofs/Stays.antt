@@ -18,21 +18,22 @@ use Rattle.pool.specs.declared.Particle.{Particle}
 use Rattle.pool.specs.Pool.{freeParticle, retireBoundOne, retuneOne}
 use Rattle.refusals.specs.declared.Answer.{Answer}
 use Rattle.settings.specs.declared.Config.{Config}
-use Rattle.settings.specs.Mending.{maxHop, defaultConfig, checkedOf, lawfulRate, finiteOr, heldTo, partialsOf, phaseOf, mendedOf}
-use Rattle.settings.proofs.Lifetimes as lifetimes
+use Rattle.settings.specs.Mending.{isSprinkle, maxHop, defaultConfig, checkedOf, lawfulRate, finiteOr, heldTo, partialsOf, phaseOf, mendedOf}
+use Rattle.settings_laws.proofs.Lifetimes as lifetimes
 use Rattle.sources.specs.declared.Source.{Source}
 use Rattle.sources.specs.Sources.{noSource, isPitched, releasedOf}
-use Rattle.floats.proofs.Unit.{nought-unit}
+use Rattle.floats_laws.proofs.Unit.{nought-unit}
 use Rattle.state.specs.declared.Done.{Done}
 use Rattle.state.specs.declared.Engine.{Engine}
 use Rattle.state.specs.declared.Prepared.{Prepared}
-use Rattle.engine.specs.declared.Triggered.{Triggered}
+use Rattle.triggers.specs.declared.Triggered.{Triggered}
 use Rattle.state.specs.State.{withConfig, withParticles, withWeights, pastSource}
 use Rattle.state.specs.Make.{preparedOf, noParticles, noSources, newOn}
 use Rattle.engine.specs.New.{newEngineOf, resetOf}
-use Rattle.engine.specs.Calls.{isSprinkle, retiredAll, aligned, reweighed, switched, offset, restarted, configuredTo, answeredBy, configuredOf, withNotes, notesOf, withSource, placedOf, setSourceOf, retireSourceOf, releaseSourceOf, soughtNext, soughtClock, soughtOf}
-use Rattle.engine.specs.Triggers.{isPermitted, reservedOf, triggeredBy, triggeredOf}
-use Rattle.runs.proofs.Every.{every-map, every-set, every-getD, every-replicate, in-case}
+use Rattle.changes.specs.Changes.{retiredAll, aligned, reweighed, switched, offset, restarted, configuredTo, answeredBy, configuredOf, withNotes, notesOf, soughtNext, soughtClock, soughtOf}
+use Rattle.source_calls.specs.Slots.{withSource, placedOf, setSourceOf, retireSourceOf, releaseSourceOf}
+use Rattle.triggers.specs.Triggers.{isPermitted, reservedOf, triggeredBy, triggeredOf}
+use Rattle.lists.specs.Every.{every-map, every-set, every-getD, every-replicate, in-case}
 use Rattle.runs.proofs.Sound.{Held, Settled, Made, Sound, Sounding, past-formed}
 use Rattle.runs.proofs.Kept.{held-retire-one, held-retire-bound, held-retune-one}
 use Rattle.runs.proofs.Voices.{Formed, both, pitched-sounds}
@@ -40,7 +41,7 @@ use Rattle.runs.proofs.Chosen.{sound-next, sound-particles, sound-born}
 use Rattle.runs.proofs.Steps.{sound-streams, sound-clock}
 
 -- ---- one group
-sound-config : (e : Engine) (c : Config) → Sound e → Settled c → Sound (withConfig e c)
+pub sound-config : (e : Engine) (c : Config) → Sound e → Settled c → Sound (withConfig e c)
 sound-config e c s h =
     record {
       made = s .made;
@@ -55,7 +56,7 @@ sound-config e c s h =
       held = s .held;
     }
 
-sound-weights : (e : Engine) (ws : List Float) → Sound e → Sound (withWeights e ws)
+pub sound-weights : (e : Engine) (ws : List Float) → Sound e → Sound (withWeights e ws)
 sound-weights e ws s =
     record {
       made = s .made;
@@ -70,7 +71,7 @@ sound-weights e ws s =
       held = s .held;
     }
 
-sound-source : (e : Engine) (slot : ℕ) (x : Source) → Formed x → Sound e → Sound (withSource e slot x)
+pub sound-source : (e : Engine) (slot : ℕ) (x : Source) → Formed x → Sound e → Sound (withSource e slot x)
 sound-source e slot x f s =
     record {
       made = s .made;
@@ -86,12 +87,12 @@ sound-source e slot x f s =
     }
 
 -- ---- every place by one function
-sound-mapped : (e : Engine) (g : Particle → Particle) → Sound e → ((p : Particle) → Held (e .clock .sample) p → Held (e .clock .sample) (g p)) → Sound (withParticles e (map g (e .particles)))
+pub sound-mapped : (e : Engine) (g : Particle → Particle) → Sound e → ((p : Particle) → Held (e .clock .sample) p → Held (e .clock .sample) (g p)) → Sound (withParticles e (map g (e .particles)))
 sound-mapped e g s h =
     sound-particles e (map g (e .particles)) s (length-map (e .particles) g ∙ s .places)
     (every-map (Held (e .clock .sample)) (Held (e .clock .sample)) g h (e .particles) (s .held))
 
-sound-retired : (e : Engine) → Sound e → Sound (retiredAll e)
+pub sound-retired : (e : Engine) → Sound e → Sound (retiredAll e)
 unfolding retiredAll
 sound-retired e s = sound-mapped e _ s (held-retire-one (e .clock .sample))
 
@@ -100,7 +101,7 @@ default-mended : defaultConfig ≡ mendedOf defaultConfig
 unfolding mendedOf heldTo finiteOr phaseOf partialsOf remEuclid clamp rem add sum round ofBits lt eq abs pick
 default-mended = refl
 
-no-source-formed : Formed noSource
+pub no-source-formed : Formed noSource
 no-source-formed = record { hz = ofBits-fits binary32 0; strength = ofBits-fits binary32 0 }
 
 sound-on : (p : Prepared) → Made p → Sound (newOn p)
@@ -198,7 +199,7 @@ pub sound-reserved : (e : Engine) → Sound e → Sound (reservedOf e .engine)
 unfolding reservedOf
 sound-reserved e s = sound-next e _ s (s .last)
 
-permitted-sounding : (e : Engine) (slot : ℕ) → isPermitted e slot ≡ true → Sounding (e .sources) slot
+pub permitted-sounding : (e : Engine) (slot : ℕ) → isPermitted e slot ≡ true → Sounding (e .sources) slot
 unfolding isPermitted
 permitted-sounding e slot h l = both (isSprinkle (e .config .shape)) _ (both (e .config .enabled) _ h .1) .1
 

@@ -19,7 +19,7 @@ use Rattle.delivery.specs.Sample.{triedOf, laneOf, lanesOf, opportunityAfter, w
 use Rattle.engine.specs.Advance.{advancedOf}
 use Rattle.runs.proofs.Births.{delivered-keeps}
 use Rattle.runs.proofs.Joins.{steps-count, grown-small}
-use Rattle.runs.proofs.Every.{every-imp, in-case}
+use Rattle.lists.specs.Every.{every-imp, in-case}
 use Rattle.runs.proofs.Sound.{Sound, Held, fit-later}
 use Rattle.runs.proofs.Chosen.{none-sounding, sound-next, sound-born}
 

@@ -12,29 +12,29 @@ use Rattle.lists.specs.Pick.{pick}
 use Rattle.floats.specs.Names.{f32, f64, mul32, div64}
 use Rattle.floats.specs.Choose.{min}
 use Rattle.floats.specs.Whole.{floor}
-use Rattle.floats.proofs.Choosing.{clamp-fits, clamp-least, clamp-most}
-use Rattle.floats.proofs.Products.{mul-rises-right}
-use Rattle.floats.proofs.Rising.{nought}
+use Rattle.floats_laws.proofs.Choosing.{clamp-fits, clamp-least, clamp-most}
+use Rattle.floats_laws.proofs.Products.{mul-rises-right}
+use Rattle.floats_laws.proofs.Rising.{nought}
 use Rattle.floats.proofs.Rules.{between-finite, finite-number, lt→le}
-use Rattle.floats.proofs.Spans.{lt-le}
-use Rattle.floats.proofs.Unit.{i, i-fits, nought-fits, one-unit}
+use Rattle.floats_laws.proofs.Spans.{lt-le}
+use Rattle.floats_laws.proofs.Unit.{i, i-fits, nought-fits, one-unit}
 use Rattle.draws.specs.Draws.{randomOf}
 use Rattle.draws.proofs.Unit.{random-in}
-use Rattle.elementary.specs.Placed.{edged, placed}
-use Rattle.elementary.specs.PowerCells.{starts, slopes, bends, startOf, slopeOf, bendOf}
-use Rattle.elementary.specs.Power.{lifted, mantissa, powerBits, power, exp2, pow8}
-use Rattle.elementary.proofs.PowerRises.{pow8-like}
-use Rattle.elementary.proofs.PowerValues.{power-fits}
+use Rattle.powers.specs.Placed.{edged, placed}
+use Rattle.powers.specs.PowerCells.{starts, slopes, bends, startOf, slopeOf, bendOf}
+use Rattle.powers.specs.Power.{lifted, mantissa, powerBits, power, exp2, pow8}
+use Rattle.elementary_laws.proofs.PowerRises.{pow8-like}
+use Rattle.elementary_laws.proofs.PowerValues.{power-fits}
 use Rattle.pitch.specs.Cloud.{frequencyOf}
-use Rattle.pitch.proofs.Frequency.{highestOf, rate-sounds}
+use Rattle.pitch_laws.proofs.Frequency.{highestOf, rate-sounds}
 use Rattle.settings.specs.declared.Shape.{Shape}
 use Rattle.settings.specs.declared.Shape.the-variants.{Sprinkle, Cloud}
 use Rattle.settings.specs.Mending.{lawfulRate}
 use Rattle.sources.specs.declared.Source.{Source}
 use Rattle.sources.specs.Sources.{isPitched, isEligible}
 use Rattle.births.specs.Births.{maxHzOf, freeRootOf, freeHzOf, freeVoiceOf, sourceVoiceOf}
-use Rattle.frame.proofs.Newborn.{Voiced}
-use Rattle.runs.proofs.Fitting.{own-convert}
+use Rattle.frame_laws.proofs.Newborn.{Voiced}
+use Rattle.floats_laws.proofs.Fitting.{own-convert}
 
 -- what a Source of the code always has: its floats are f32s
 pub record Formed (s : Source) : Type 0 where

@@ -4,9 +4,9 @@ use Prim.Native.Nat.{ℕ, zero, suc, _+_, _^_}
 use mathlib.Core.Bool.{Bool}
 use mathlib.Core.List.{List, [], _∷_, _++_, map}
 use lib.Bits.{bitXor}
-use lib.Dec.{eqb, leb, ltb}
+use lib.Dec.{T, eqb, leb, ltb}
 use lib.ListN.{getD, set}
-use lib.Ieee.{Float, lt, le, eq}
+use lib.Ieee.{Float, binary32, fits, lt, le, eq}
 use Rattle.lists.specs.Pick.{pick}
 use Rattle.lists.specs.Times.{iterate}
 use Rattle.draws.specs.Draws.{keyOf}
@@ -29,8 +29,11 @@ use Rattle.state.specs.Make.{weightsOf}
 use Rattle.delivery.specs.Birth.{bornOf}
 use Rattle.delivery.specs.Sample.{triedOf, laneOf, opportunityAfter, withOpportunity, referenceNow, deliveredOf, tickedOf, steppedOf}
 use Rattle.engine.specs.Advance.{advancedOf}
-use Rattle.engine.specs.Calls.{retiredAll, sameKind, reweighed, switched, offset, offsetTo, enters, preparedAll, withNotes, withSource, soughtClock, soughtNext, configuredOf, notesOf, setSourceOf, retireSourceOf, releaseSourceOf, soughtOf}
-use Rattle.engine.specs.Triggers.{withIndex, isPermitted, reservedOf, triggeredBy, triggeredOf}
+use Rattle.changes.specs.Changes.{retiredAll, sameKind, reweighed, switched, offset, offsetTo, enters, preparedAll, withNotes, soughtClock, soughtNext, configuredOf, notesOf, soughtOf}
+use Rattle.source_calls.specs.Slots.{withSource, setSourceOf, retireSourceOf, releaseSourceOf}
+use Rattle.triggers.specs.Triggers.{withIndex, isPermitted, reservedOf, triggeredBy, triggeredOf}
+use Rattle.frame.specs.Frame.{activityOf, accepted}
+use Rattle.frame.specs.Call.{heldOf, renewedOf, framedOf}
 
 -- ---- acts
 pub data Act : Type 0 where
@@ -41,6 +44,8 @@ pub data Act : Type 0 where
   retireBound : ℕ → Act
   -- those that follow a slot, to a frequency
   retune : ℕ → Float → Act
+  -- an accepted frame, so many seconds after the last
+  frame : Float → Act
   -- one group of the state
   source : ℕ → Source → Act
   streams : List SprinkleStream → Act
@@ -54,6 +59,7 @@ act e (birth index own) = bornOf e index own
 act e retire = retiredAll e
 act e (retireBound slot) = withParticles e (map (retireBoundOne slot (e .clock .sample)) (e .particles))
 act e (retune slot hz) = withParticles e (map (retuneOne slot hz) (e .particles))
+act e (frame seconds) = renewedOf e (heldOf e) (activityOf (e .activity) (e .config .enabled) seconds)
 act e (source slot s) = withSource e slot s
 act e (streams ss) = withStreams e ss
 act e (next n) = withNext e n
@@ -146,6 +152,24 @@ pub data Call : Type 0 where
   reserved : ℕ → ℕ → Call
   seek : Float → Call
   advance : ℕ → Call
+  takeFrame : Float → Float → Call
+
+abbrev pub Single : Float → Type 0
+Single x = T (fits binary32 x)
+
+-- what the code's types say of a call: its floats are f32s
+abbrev pub Typed : Call → Type 0
+Typed (configure c) = Single (c .«rate_hz») × Single (c .«size_octaves»)
+Typed (setSource slot s) = Single (s .«frequency_hz») × Single (s .strength)
+Typed (takeFrame binHz seconds) = Single seconds
+Typed (noteInput present) = Unit {0}
+Typed (retireSource slot) = Unit {0}
+Typed (releaseSource slot) = Unit {0}
+Typed (trigger slot) = Unit {0}
+Typed reserve = Unit {0}
+Typed (reserved slot index) = Unit {0}
+Typed (seek cycles) = Unit {0}
+Typed (advance n) = Unit {0}
 
 unfoldable pub actsOf : Engine → Call → List Act
 actsOf e (configure c) = checkedActs (checkedOf c) e c
@@ -162,6 +186,7 @@ actsOf e (seek cycles) =
     let k = soughtClock e cycles in
     retire ∷ clock k ∷ next (soughtNext e k) ∷ streams (alignedAll (referenceNow k) (e .config .sync)) ∷ []
 actsOf e (advance n) = pick (leb (e .clock .sample + n) (2 ^ 40)) (advanceActs n e) []
+actsOf e (takeFrame binHz seconds) = only (accepted seconds) (frame seconds)
 
 -- the engine after a call, as its contract has it
 unfoldable pub applied : Engine → Call → Engine
@@ -175,3 +200,4 @@ applied e reserve = reservedOf e .engine
 applied e (reserved slot index) = triggeredBy e slot index .engine
 applied e (seek cycles) = soughtOf e cycles
 applied e (advance n) = advancedOf e n .engine
+applied e (takeFrame binHz seconds) = framedOf e binHz seconds .engine

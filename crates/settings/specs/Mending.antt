@@ -1,4 +1,4 @@
--- The settings' default, 01's limit of the hop, and how `configure` mends every other number, line by line as the Rust. Definitions only.
+-- Which shape it is, the settings' default, 01's limit of the hop, and how `configure` mends every other number, line by line as the Rust. Definitions only.
 use Prim.Native.Nat.{ℕ}
 use mathlib.Core.Bool.{Bool, true, false, cond, _&&_}
 use lib.Dec.{ltb}
@@ -12,7 +12,8 @@ use Rattle.refusals.specs.declared.Answer.{Answer}
 use Rattle.refusals.specs.declared.Answer.the-variants.{Taken, Refused}
 use Rattle.refusals.specs.declared.Refusal.the-variants.{Size}
 use Rattle.settings.specs.declared.Config.{Config}
-use Rattle.settings.specs.declared.Shape.the-variants.{Sprinkle}
+use Rattle.settings.specs.declared.Shape.{Shape}
+use Rattle.settings.specs.declared.Shape.the-variants.{Sprinkle, Cloud}
 use Rattle.settings.specs.declared.Direction.the-variants.{Forward}
 
 -- 0.0 and 1.0
@@ -21,6 +22,10 @@ nil = f32 0x00000000
 
 abbrev pub one : Float
 one = f32 0x3f800000
+
+abbrev pub isSprinkle : Shape → Bool
+isSprinkle Sprinkle = true
+isSprinkle Cloud = false
 
 abbrev pub defaultConfig : Config
 defaultConfig =

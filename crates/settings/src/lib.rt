@@ -1,6 +1,6 @@
 // The settings: what may be asked for, how it is mended, and the envelope that a birth takes from it.
 ghost use mathlib.Core.Path.{_≡_};
-ghost use Rattle.settings.specs.Mending.{defaultConfig, checkedOf, finiteOr, partialsOf, mendedOf};
+ghost use Rattle.settings.specs.Mending.{isSprinkle, defaultConfig, checkedOf, finiteOr, partialsOf, mendedOf};
 use refusals::Answer;
 use refusals::Refusal;
 
@@ -62,6 +62,15 @@ pub struct Config {
 pub struct Contour {
     pub lifetime: f32,
     pub attack: f32,
+}
+
+pub fn is_sprinkle(shape: Shape) -> bool
+    ensures { λ r. ⌜ r ≡ isSprinkle shape ⌝ }
+{
+    match shape {
+        Shape::Sprinkle => true,
+        Shape::Cloud => false,
+    }
 }
 
 pub fn default_config() -> Config

@@ -1,6 +1,9 @@
 // The engine's state: a value that goes into a call and comes back, in groups of what changes together.
+ghost use mathlib.Core.Path.{_≡_};
+ghost use Rattle.state.specs.State.{taken, refused};
 use pool::Particle;
 use refusals::Answer;
+use refusals::Refusal;
 use settings::Config;
 use sources::Source;
 use timing::SprinkleStream;
@@ -59,4 +62,22 @@ pub struct Engine {
 pub struct Done {
     pub answer: Answer,
     pub engine: Engine,
+}
+
+pub fn take(engine: Engine) -> Done
+    ensures { λ r. ⌜ r ≡ taken engine ⌝ }
+{
+    Done {
+        answer: Answer::Taken,
+        engine,
+    }
+}
+
+pub fn refuse(engine: Engine, refusal: Refusal) -> Done
+    ensures { λ r. ⌜ r ≡ refused refusal engine ⌝ }
+{
+    Done {
+        answer: Answer::Refused(refusal),
+        engine,
+    }
 }

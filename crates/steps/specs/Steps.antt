@@ -14,13 +14,14 @@ use Rattle.windows.specs.declared.Frame.{Frame}
 use Rattle.windows.specs.Opening.{emptyFrame}
 use Rattle.state.specs.declared.Engine.{Engine}
 use Rattle.state.specs.declared.Done.{Done}
-use Rattle.engine.specs.declared.Triggered.{Triggered}
-use Rattle.engine.specs.declared.Outcome.{Outcome}
-use Rattle.engine.specs.declared.Outcome.the-variants as O
+use Rattle.triggers.specs.declared.Triggered.{Triggered}
+use Rattle.triggers.specs.declared.Outcome.{Outcome}
+use Rattle.triggers.specs.declared.Outcome.the-variants as O
 use Rattle.engine.specs.New.{newEngineOf, resetOf}
-use Rattle.engine.specs.Calls.{configuredOf, notesOf, setSourceOf, retireSourceOf, releaseSourceOf, soughtOf}
+use Rattle.changes.specs.Changes.{configuredOf, notesOf, soughtOf}
+use Rattle.source_calls.specs.Slots.{setSourceOf, retireSourceOf, releaseSourceOf}
 use Rattle.engine.specs.Advance.{advancedOf}
-use Rattle.engine.specs.Triggers.{triggeredOf, reservedOf, triggeredBy}
+use Rattle.triggers.specs.Triggers.{triggeredOf, reservedOf, triggeredBy}
 use Rattle.pool.specs.Pool.{activeCount}
 use Rattle.frame.specs.declared.Framed.{Framed}
 use Rattle.frame.specs.Call.{framedOf as takeFrameOf}

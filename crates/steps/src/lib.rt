@@ -1,7 +1,7 @@
 // What one field of a script does to the run.
 ghost use mathlib.Core.Path.{_≡_};
-ghost use Rattle.engine.specs.Calls.{setSourceOf};
-ghost use Rattle.engine.specs.Triggers.{reservedOf};
+ghost use Rattle.source_calls.specs.Slots.{setSourceOf};
+ghost use Rattle.triggers.specs.Triggers.{reservedOf};
 ghost use Rattle.steps.specs.Steps as Steps;
 ghost use Rattle.steps.specs.Steps.{withEngine, quietOf, refusedOf, doneOf, firedOf, millisecondsOf, valuesOf, shownOf, framedOf, sourceOf, stepOf};
 use engine::Outcome;

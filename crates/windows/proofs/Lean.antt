@@ -11,10 +11,10 @@ use lib.Ieee as Ieee
 use lib.Ieee.Fits.{sub-fits, div-fits, and-i, eq→eqb, up-pos, round-is}
 use lib.Ieee.Order.{kept, drop}
 use Rattle.floats.specs.Choose.{abs, clamp}
-use Rattle.floats.proofs.Ends.{not-above, from-zero}
-use Rattle.floats.proofs.Gap.{one-number}
-use Rattle.floats.proofs.Rising.{nought, sub-falls}
-use Rattle.floats.proofs.Units.{one as i, one-fits, zero-fits}
+use Rattle.floats_laws.proofs.Ends.{not-above, from-zero}
+use Rattle.floats_laws.proofs.Gap.{one-number}
+use Rattle.floats_laws.proofs.Rising.{nought, sub-falls}
+use Rattle.floats_laws.proofs.Units.{one as i, one-fits, zero-fits}
 use Rattle.windows.specs.declared.Window.{Window}
 use Rattle.windows.specs.Opening.{nil, one, cubic, taperOf, insideOf}
 

@@ -1,3 +1,1 @@
 pub mod Lean
-pub mod Tapered
-pub mod UpperHalf

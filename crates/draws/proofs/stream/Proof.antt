@@ -1,7 +1,7 @@
 -- Each arm's number is the entry of its place, and the last arm lies past the list.
 use mathlib.Core.Path.{sym}
 use borrow.Author.Needs.{needs}
-use Rattle.floats.proofs.Tables.{past, past-end}
+use Rattle.floats_laws.proofs.Tables.{past, past-end}
 use Rattle.draws.specs.Draws.{streams, streamOf}
 use Rattle.draws.proofs.stream.Statement.{statement}
 use Rattle.draws.proofs.stream.Tie as tie

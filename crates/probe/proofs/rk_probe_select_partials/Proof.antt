@@ -2,7 +2,7 @@
 use mathlib.Core.Path.{ap, _∙_}
 use mathlib.Core.List.{List}
 use lib.Ieee.{Float}
-use Rattle.pitch.specs.Partials.{partialsOf}
+use Rattle.harmonics.specs.Partials.{partialsOf}
 use Rattle.probe.specs.Numbers.{packedOf}
 use borrow.Author.Needs.{needs}
 use Rattle.probe.proofs.rk_probe_select_partials.Statement.{statement}

@@ -6,7 +6,7 @@ use Prim.Native.Nat.{ℕ, zero, suc, _+_, _-_, _*_, _≤_, _<_}
 use native.Mathlib.Nat.{le-trans, mul-le-mul, mul-add, add-mul, suc-mul, not-le-of-lt}
 use native.Mathlib.Omega.{arith}
 use borrow.Author.Needs.{needs}
-use Rattle.floats.proofs.Naturals.{le-or-lt}
+use Rattle.floats_laws.proofs.Naturals.{le-or-lt}
 use Rattle.floats.proofs.Words.{product-fits}
 use Rattle.elementary.proofs.Squares.{settled, root-is}
 use Rattle.elementary.proofs.root.nearest_root.Statement.{statement}

@@ -4,7 +4,7 @@ use lib.Ieee.{binary64}
 use lib.Ieee.Compare.{differs-from-itself}
 use denote.Floats.{passes}
 use Rattle.floats.specs.Choose.{abs}
-use Rattle.floats.proofs.Facts.{no-nan}
+use Rattle.casts.proofs.Facts.{no-nan}
 use Rattle.floats.proofs.Sign.{abs-back, abs-no-nan}
 use Rattle.floats.proofs.choose.abs64.Statement.{statement}
 use Rattle.floats.proofs.choose.abs64.Tie as tie

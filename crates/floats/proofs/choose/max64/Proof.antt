@@ -1,7 +1,7 @@
 -- `max64` meets its contract: the picks are the definition's.
 use borrow.Author.Needs.{needs}
 use Rattle.floats.specs.Choose.{max}
-use Rattle.floats.proofs.Facts.{ne-self}
+use Rattle.casts.proofs.Facts.{ne-self}
 use Rattle.floats.proofs.choose.max64.Statement.{statement}
 use Rattle.floats.proofs.choose.max64.Tie as tie
 

@@ -1,94 +1,47 @@
--- `last_turn` meets its contract: the last of the turns that are left is the last of all.
-use borrow.Author.Needs.{needs}
-use Prim.Native.Nat.{_+_, _-_, _≤_, _<_}
+-- `last_turn` meets its contract: the first turn, and those behind it.
+use Prim.Native.Nat.{_≤_}
+use mathlib.Core.Path.{_≡_, _∙_}
 use native.Mathlib.Omega.{arith}
-use lib.ListN.{length}
-use Rattle.script.proofs.Part.{rest}
-use Rattle.listing.proofs.Laws.{taken-left}
-use Rattle.listing.proofs.Last.{Ends, start, stop, go-on}
+use borrow.Author.Needs.{needs}
+use Rattle.listing.proofs.Late.{one-turn, in-script, turns}
 use Rattle.listing.proofs.turns.last_turn.Statement.{statement}
 use Rattle.listing.proofs.turns.last_turn.Tie as tie
 
-abbrev Inv-loop : tie.InvT-loop
-Inv-loop script run₀ n₀ at₀ run n at = (at ≤ length script) × (0 < n) × (n ≤ at + 1) × Ends script run n at
-
-abbrev μ-loop : tie.MeasureT-loop
-μ-loop script run₀ n₀ at₀ run n at = length script - at
-
-fresh-requires : tie.Need-fresh-requires Inv-loop μ-loop
+fresh-requires : tie.Need-fresh-requires
 fresh-requires c κs = search needs
 
-loop-holds : tie.Need-loop-holds Inv-loop μ-loop
-loop-holds c = (omega arith, omega arith, omega arith, rw (c .fresh .ensures) (start (c .before .before .args .script .now)))
-
-sub-one-turn : tie.Need-sub-one-turn Inv-loop μ-loop
-sub-one-turn c = omega arith
-
-part-one-turn-start : tie.Need-part-one-turn-start Inv-loop μ-loop
-part-one-turn-start c = omega arith
-
-part-one-turn-end : tie.Need-part-one-turn-end Inv-loop μ-loop
-part-one-turn-end c = omega arith
-
-one-turn-requires : tie.Need-one-turn-requires Inv-loop μ-loop
+one-turn-requires : tie.Need-one-turn-requires
 one-turn-requires c κs = search needs
 
-returns : tie.Need-returns Inv-loop μ-loop
+returns : tie.Need-returns
 returns c =
-    let l = c .before .before .before .loop in
-    let s = c .before .before .before .before .before .before .args .script .now in
-    let t = c .before .one-turn .result in
-    let eq = rw (rest (l .at) s) at (c .before .one-turn .ensures) in
-    stop s (l .run) (l .n) (l .at) t (l .inv .1) (l .inv .2) (l .inv .0) (l .inv .3) eq (c .if1 .taken)
+    let a = c .before .before .before .before .args in
+    let eq = rw (c .before .before .fresh .ensures) at (c .before .one-turn .ensures) in
+    one-turn (a .start) (a .script .now) (c .before .one-turn .result) eq (c .if1 .taken)
 
-add-at : tie.Need-add-at Inv-loop μ-loop
-add-at c =
-    let l = c .before .before .before .before .loop in
-    let s = c .before .before .before .before .before .before .before .args .script .now in
-    let t = c .before .before .one-turn .result in
-    let eq = rw (rest (l .at) s) at (c .before .before .one-turn .ensures) in
-    let le = taken-left (l .run) (l .n) (l .at) s t eq in
-    omega arith
+counted-requires : tie.Need-counted-requires
+counted-requires c κs = search needs
 
-add-n : tie.Need-add-n Inv-loop μ-loop
-add-n c = omega arith
+last-field-requires : tie.Need-last-field-requires
+last-field-requires c κs =
+    let a = c .before .before .before .before .before .args in
+    let eq = rw (c .before .before .before .fresh .ensures) at (c .before .before .one-turn .ensures) in
+    let fit = in-script (a .start) (a .script .now) (c .before .before .one-turn .result) eq (c .before .if1 .left) in
+    (fit, omega arith, omega (arith, c .before .if1 .left))
 
-loop-less : tie.Need-loop-less Inv-loop μ-loop
-loop-less c =
-    let l = c .before .before .before .before .loop in
-    let s = c .before .before .before .before .before .before .before .args .script .now in
-    let t = c .before .before .one-turn .result in
-    let eq = rw (rest (l .at) s) at (c .before .before .one-turn .ensures) in
-    let le = taken-left (l .run) (l .n) (l .at) s t eq in
-    omega arith
-
-loop-again : tie.Need-loop-again Inv-loop μ-loop
-loop-again c =
-    let l = c .before .before .before .before .loop in
-    let s = c .before .before .before .before .before .before .before .args .script .now in
-    let t = c .before .before .one-turn .result in
-    let eq = rw (rest (l .at) s) at (c .before .before .one-turn .ensures) in
-    let le = taken-left (l .run) (l .n) (l .at) s t eq in (
-      omega arith,
-      omega arith,
-      omega arith,
-      go-on s (l .run) (l .n) (l .at) t (l .inv .1) (l .inv .2) (l .inv .0) (l .inv .3) eq (c .before .if1 .left),
-    )
+returns-2 : tie.Need-returns-2
+returns-2 c =
+    let a = c .before .before .before .before .before .before .args in
+    let eq = rw (c .before .before .before .before .fresh .ensures) at (c .before .before .before .one-turn .ensures) in
+    (rw (c .before .counted .ensures) at (c .last-field .ensures)) ∙ turns (a .start) (a .script .now) (c .before .before .before .one-turn .result) eq (c .before .before .if1 .left)
 
 pub last-turn-spec : {M : Type 1} → statement M
 last-turn-spec =
     tie.close
     (tie.spec
-    Inv-loop
-    μ-loop
     fresh-requires
-    loop-holds
-    sub-one-turn
-    part-one-turn-start
-    part-one-turn-end
     one-turn-requires
     returns
-    add-at
-    add-n
-    loop-less
-    loop-again)
+    counted-requires
+    last-field-requires
+    returns-2)

@@ -4,7 +4,7 @@ use mathlib.Core.Path.{ap, _∙_}
 use denote.Floats.{passes}
 use lib.Ieee.{Float}
 use Rattle.floats.specs.Names.{mul32}
-use Rattle.elementary.specs.Power.{dbToGain}
+use Rattle.powers.specs.Power.{dbToGain}
 use Rattle.mask.specs.Gains.{gainOf}
 use Rattle.mask.proofs.Closed.{closed-bin}
 use Rattle.mask.proofs.gain.gain.Statement.{statement}

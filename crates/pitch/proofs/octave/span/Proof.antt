@@ -1,6 +1,7 @@
 -- `span` meets its contract: one test.
 use Rattle.lists.specs.Pick.{took, skipped}
-use Rattle.pitch.specs.Octave.{asFloat, spanOf}
+use Rattle.harmonics.specs.Partials.{asFloat}
+use Rattle.pitch.specs.Octave.{spanOf}
 use lib.Dec.{ltb}
 use Prim.Native.Nat.{ℕ}
 use mathlib.Core.Path.{sym, ap, _∙_}

@@ -6,7 +6,8 @@ use Prim.Native.Nat.{ℕ, _-_, _≤_}
 use Rattle.floats.specs.Names.{add32}
 use lib.Ieee.{Float}
 use Rattle.lists.specs.Times.{times, times-none, times-more}
-use Rattle.pitch.specs.Octave.{weightOf, minusNil, totalOf}
+use Rattle.harmonics.specs.Partials.{minusNil}
+use Rattle.pitch.specs.Octave.{weightOf, totalOf}
 use Rattle.pitch.proofs.octave.total.Statement.{statement}
 use Rattle.pitch.proofs.octave.total.Tie as tie
 

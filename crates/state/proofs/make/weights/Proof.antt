@@ -5,7 +5,7 @@ use lib.Ieee.{neg, nan}
 use Rattle.state.specs.Make.{weightsOf}
 use lib.ListN.{getD}
 use Rattle.floats.specs.Names.{mul32}
-use Rattle.elementary.specs.Power.{dbToGain}
+use Rattle.powers.specs.Power.{dbToGain}
 use borrow.Author.Needs.{needs}
 use Rattle.state.proofs.make.weights.Statement.{statement}
 use Rattle.state.proofs.make.weights.Tie as tie

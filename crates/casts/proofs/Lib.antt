@@ -1,0 +1,5 @@
+pub mod Facts
+pub mod Values
+pub mod Sat
+pub mod Pack
+pub mod Narrow

@@ -1,0 +1,4 @@
+pub mod RootRises
+pub mod RootClosest
+pub mod PowerRises
+pub mod PowerValues

@@ -1,0 +1,3 @@
+pub mod FullScan
+pub mod Prepared
+pub mod Shut

@@ -1,0 +1,1 @@
+// Laws of the pitches: where registers, octaves, frequencies and picked harmonics lie. No code.

@@ -1,0 +1,5 @@
+pub mod PowerLike
+pub mod Edges
+pub mod PlacedAt
+pub mod PlacedRises
+pub mod PowerTable

@@ -1,0 +1,3 @@
+pub mod Placed
+pub mod PowerCells
+pub mod Power

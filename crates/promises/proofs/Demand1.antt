@@ -1,0 +1,222 @@
+-- Demand 1: every call refuses by the scope's numbers, exactly when the scope says, and a refusal leaves what it must.
+use Prim.Native.Nat.{ℕ, _+_, _-_, _/_, _^_}
+use mathlib.Core.Path.{_≡_, refl, sym, ap, _∙_}
+use mathlib.Core.Logic.{_↔_}
+use mathlib.Core.Bool.{Bool, true, false, cond, not, _&&_, _||_, true≢false}
+use mathlib.Core.List.{List, [], _∷_, _++_}
+use lib.Dec.{eqb, ltb, leb}
+use lib.ListN.{length, getD, drop}
+use lib.Ieee.{Float}
+use Rattle.lists.specs.Pick.{pick, picked, passed, either, by-case}
+use Rattle.refusals.specs.declared.Answer.{Answer}
+use Rattle.refusals.specs.declared.Answer.the-variants.{Taken, Refused}
+use Rattle.refusals.specs.declared.Refusal.{Refusal}
+use Rattle.refusals.specs.declared.Refusal.the-variants.{Rate, Slot, Size, Elapsed, Lengths, Logs, Tag, Cut, Value, Place, Script}
+use Rattle.refusals.specs.Numbers.{numberOf, answerOf}
+use Rattle.settings.specs.declared.Config.{Config}
+use Rattle.settings.specs.Mending.{checkedOf, lawfulRate}
+use Rattle.state.specs.declared.Engine.{Engine}
+use Rattle.state.specs.State.{taken, refused}
+use Rattle.engine.specs.New.{newEngineOf}
+use Rattle.triggers.specs.declared.Triggered.{Triggered}
+use Rattle.triggers.specs.declared.Outcome.the-variants as O
+use Rattle.engine.specs.Advance.{advancedOf}
+use Rattle.source_calls.specs.Slots.{setSourceOf, retireSourceOf, releaseSourceOf}
+use Rattle.changes.specs.Changes.{answeredBy, configuredOf}
+use Rattle.triggers.specs.Triggers.{outcomeNumber, told, outcomeOf, reservedOf, triggeredBy, triggeredOf}
+use Rattle.windows.specs.declared.Frame.{Frame}
+use Rattle.windows.specs.Opening.{emptyFrame}
+use Rattle.frame.specs.declared.Framed.{Framed}
+use Rattle.frame.specs.Frame.{accepted}
+use Rattle.frame.specs.Call.{takenOf, refusedOf, framedOf}
+use Rattle.bin_tables.specs.Bins as bins
+use Rattle.bin_tables.specs.Logs.{lawfulLogs}
+use Rattle.mask.specs.Gains.{gainsOf}
+use Rattle.script.specs.declared.Field.{Field}
+use Rattle.script.specs.declared.Read.the-variants as R
+use Rattle.script.specs.Bytes.{be16}
+use Rattle.script.specs.Table.{kindOf, lengthOf, lawful}
+use Rattle.script.specs.Field.{misplaced, unknown, bodyOf, readOf}
+use Rattle.listing.specs.declared.Ended.{Ended}
+use Rattle.listing.specs.Ended.{ranOf}
+use Rattle.entry.specs.Entry.{entryAnswer, ifTaken, entryBytes}
+use Rattle.promises.specs.Demand1.{Row, firstOf, NoneHolds, Given, badSlot, readNumber, Kept, Demand1}
+
+-- ---- the first test that holds
+found : (rows : List Row) (k : ℕ) → (k ≡ 0 → ⊥) → firstOf rows ≡ k → Given rows k
+unfolding firstOf
+found [] k n h = absurd (n (sym h))
+found (row ∷ rows) k n h =
+    by-case (row .0)
+    (λ y. record { before = []; after = rows; split = ap {B = List Row} (λ (r : Row). r ∷ rows) (pairs row y (picked (row .0) (row .1) (firstOf rows) y ∙ h)); none = tt })
+    (λ f.
+    let g = found rows k n (passed (row .0) (row .1) (firstOf rows) f ∙ h) in
+    record { before = row ∷ g .before; after = g .after; split = ap {B = List Row} (λ (rs : List Row). row ∷ rs) (g .split); none = (f, g .none) })
+  where
+    pairs : (r : Row) {b : Bool} {k : ℕ} → r .0 ≡ b → r .1 ≡ k → r ≡ (b, k)
+    pairs r p q = rw (← p, ← q)
+
+first-at : (before after : List Row) (k : ℕ) → NoneHolds before → firstOf (before ++ (true, k) ∷ after) ≡ k
+unfolding firstOf pick
+first-at [] after k n = refl
+first-at (row ∷ rows) after k n = sym (passed (row .0) (row .1) (firstOf (rows ++ (true, k) ∷ after)) (n .0)) ∙ first-at rows after k (n .1)
+
+given-exactly : (rows : List Row) (k : ℕ) → (k ≡ 0 → ⊥) → (firstOf rows ≡ k) ↔ Given rows k
+given-exactly rows k n = (found rows k n, λ g. ap firstOf (g .split) ∙ first-at (g .before) (g .after) k (g .none))
+
+-- ---- calls with one refusal
+done : (b : Bool) (r : Refusal) (x e : Engine) → answerOf (pick b (taken x) (refused r e) .answer) ≡ firstOf ((not b, numberOf r) ∷ [])
+unfolding firstOf pick
+done true r x e = refl
+done false r x e = refl
+
+done-leaves : (b : Bool) (r : Refusal) (x e : Engine) → Kept e (pick b (taken x) (refused r e))
+unfolding pick
+done-leaves true r x e n = absurd (n refl)
+done-leaves false r x e n = refl
+
+new-leaves : (b : Bool) (x y : Engine) → not b ≡ true → pick b (taken x) (refused Rate y) .engine ≡ y
+unfolding pick
+new-leaves true x y n = absurd (true≢false (sym n))
+new-leaves false x y n = refl
+
+checked : (b : Bool) (e : Engine) (c : Config) → (answerOf (answeredBy (pick b (Refused Size) Taken) e c .answer) ≡ firstOf ((b, 3) ∷ [])) × Kept e (answeredBy (pick b (Refused Size) Taken) e c)
+unfolding firstOf pick
+checked true e c = (refl, λ n. refl)
+checked false e c = (refl, λ n. absurd (n refl))
+
+-- ---- triggers: born, not eligible and dropped are 0
+outcomes : (e out : Engine) → outcomeNumber (outcomeOf e out .outcome) ≡ 0
+outcomes e out = either (λ (t : Triggered). outcomeNumber (t .outcome) ≡ 0) _ _ _ refl refl
+
+fired-by : (b : Bool) (t : Triggered) (e : Engine) → outcomeNumber (t .outcome) ≡ 0 → outcomeNumber (pick b t (told (O.Refused Slot) e) .outcome) ≡ firstOf ((not b, 2) ∷ [])
+unfolding firstOf pick
+fired-by true t e h = h
+fired-by false t e h = refl
+
+fired : (e : Engine) (slot index : ℕ) → outcomeNumber (triggeredBy e slot index .outcome) ≡ firstOf ((badSlot slot, 2) ∷ [])
+unfolding triggeredBy
+fired e slot index = fired-by (ltb slot 256) _ e (either (λ (t : Triggered). outcomeNumber (t .outcome) ≡ 0) _ _ _ (outcomes e _) refl)
+
+missed : (b : Bool) (t : Triggered) (e : Engine) → not b ≡ true → pick b t (told (O.Refused Slot) e) .engine ≡ e
+unfolding pick
+missed true t e n = absurd (true≢false (sym n))
+missed false t e n = refl
+
+fired-leaves : (e : Engine) (slot index : ℕ) → badSlot slot ≡ true → triggeredBy e slot index .engine ≡ e
+unfolding triggeredBy
+fired-leaves e slot index n = missed (ltb slot 256) _ e n
+
+-- ---- frame
+framed : (b : Bool) (e : Engine) (x : Framed) → x .answer ≡ Taken → answerOf (pick b x (refusedOf e) .answer) ≡ firstOf ((not b, 7) ∷ [])
+unfolding firstOf pick refusedOf
+framed true e x h = ap answerOf h
+framed false e x h = refl
+
+framed-leaves : (b : Bool) (e : Engine) (x : Framed) → not b ≡ true → (pick b x (refusedOf e) .engine ≡ e) × (pick b x (refusedOf e) .frame ≡ emptyFrame)
+unfolding pick refusedOf
+framed-leaves true e x n = absurd (true≢false (sym n))
+framed-leaves false e x n = (refl, refl)
+
+-- ---- lent slices
+abbrev Bins : Type 0
+Bins = Answer × List Float
+
+tabled : (a b c d : Bool) (x old : List Float)
+    → let got : Bins = pick a (pick b (Refused Size, old) (pick c (Refused Size, old) (pick d (Taken, x) (Refused Lengths, old)))) (Refused Rate, old) in
+    (answerOf (got .0) ≡ firstOf ((not a, 1) ∷ (b || c, 3) ∷ (not d, 5) ∷ [])) × ((answerOf (got .0) ≡ 0 → ⊥) → got .1 ≡ old)
+unfolding firstOf pick
+tabled false b c d x old = (refl, λ n. refl)
+tabled true true c d x old = (refl, λ n. refl)
+tabled true false true d x old = (refl, λ n. refl)
+tabled true false false false x old = (refl, λ n. refl)
+tabled true false false true x old = (refl, λ n. absurd (n refl))
+
+abbrev Masked : Type 0
+Masked = Answer × List Float × List Float
+
+masked : (a b c : Bool) (x : Masked) (scratch output : List Float) → x .0 ≡ Taken
+    → let got : Masked = pick a (pick b (pick c x (Refused Logs, scratch, output)) (Refused Lengths, scratch, output)) (Refused Lengths, scratch, output) in
+    (answerOf (got .0) ≡ firstOf ((not a || not b, 5) ∷ (not c, 6) ∷ [])) × ((answerOf (got .0) ≡ 0 → ⊥) → (got .1 ≡ scratch) × (got .2 ≡ output))
+unfolding firstOf pick
+masked false b c x scratch output h = (refl, λ n. (refl, refl))
+masked true false c x scratch output h = (refl, λ n. (refl, refl))
+masked true true false x scratch output h = (refl, λ n. (refl, refl))
+masked true true true x scratch output h = (ap answerOf h, λ n. absurd (n (ap answerOf h)))
+
+module _ (f : Frame) (depth : Float) (logs scratch output : List Float) where
+  passed-on : (answerOf (gainsOf f depth logs scratch output .0) ≡ firstOf ((not (eqb (length output) (length scratch)) || not (eqb (length output) (length logs)), 5) ∷ (not (lawfulLogs logs), 6) ∷ []))
+      × ((answerOf (gainsOf f depth logs scratch output .0) ≡ 0 → ⊥) → (gainsOf f depth logs scratch output .1 ≡ scratch) × (gainsOf f depth logs scratch output .2 ≡ output))
+  unfolding gainsOf
+  passed-on =
+      masked (eqb (length output) (length scratch)) (eqb (length output) (length logs)) (lawfulLogs logs) _ scratch output
+      (either (λ (x : Masked). x .0 ≡ Taken) _ _ _ refl (either (λ (x : Masked). x .0 ≡ Taken) _ _ _ refl refl))
+
+-- ---- a field of a script
+field-read : (a first b c d f g h : Bool) (x : Field) (k : ℕ)
+    → readNumber
+    (cond a (cond first (R.Bad Place) R.End)
+    (cond b (R.Bad Cut) (cond c (R.Bad Place) (cond d (R.Bad Tag) (cond f (cond g (cond h (R.Field x k) (R.Bad Value)) (R.Bad Cut)) (R.Bad Cut))))))
+    ≡ firstOf ((a && first, 11) ∷ (a, 0) ∷ (b, 9) ∷ (c, 11) ∷ (d, 8) ∷ (not f, 9) ∷ (not g, 9) ∷ (not h, 10) ∷ [])
+unfolding firstOf pick
+field-read true true b c d f g h x k = refl
+field-read true false b c d f g h x k = refl
+field-read false first true c d f g h x k = refl
+field-read false first false true d f g h x k = refl
+field-read false first false false true f g h x k = refl
+field-read false first false false false false g h x k = refl
+field-read false first false false false true false h x k = refl
+field-read false first false false false true true false x k = refl
+field-read false first false false false true true true x k = refl
+
+-- ---- a whole script
+entered : (a b : Bool) (x y : Ended) → y .answer ≡ Refused Script
+    → answerOf (pick a (cond b x y .answer) (Refused Lengths)) ≡ firstOf ((not a, 5) ∷ (not b, 12) ∷ (true, answerOf (x .answer)) ∷ [])
+unfolding firstOf pick
+entered false b x y h = refl
+entered true false x y h = ap answerOf h
+entered true true x y h = refl
+
+unwritten : (a : Answer) (bytes o : List ℕ) → (answerOf a ≡ 0 → ⊥) → ifTaken a bytes o ≡ o
+unwritten Taken bytes o n = absurd (n refl)
+unwritten (Refused r) bytes o n = refl
+
+entry-unwritten : (s o : List ℕ) → (answerOf (entryAnswer s o) ≡ 0 → ⊥) → entryBytes s o ≡ o
+unfolding entryBytes
+entry-unwritten s o n = unwritten (entryAnswer s o) _ o n
+
+-- ---- all of it
+pub demand1 : Demand1
+unfolding newEngineOf lawfulRate configuredOf checkedOf setSourceOf retireSourceOf releaseSourceOf advancedOf triggeredOf framedOf takenOf accepted bins.preparedOf readOf bodyOf entryAnswer ranOf
+demand1 =
+    record {
+      exactly = given-exactly;
+      new = λ rate. done (lawfulRate rate) Rate _ _;
+      new-leaves = λ rate. new-leaves (lawfulRate rate) _ _;
+      configure = λ e c. checked (ltb 16384 (c .«hop_samples»)) e c .0;
+      configure-leaves = λ e c. checked (ltb 16384 (c .«hop_samples»)) e c .1;
+      set-source = λ e slot s. done (ltb slot 256) Slot _ e;
+      set-source-leaves = λ e slot s. done-leaves (ltb slot 256) Slot _ e;
+      retire-source = λ e slot. done (ltb slot 256) Slot _ e;
+      retire-source-leaves = λ e slot. done-leaves (ltb slot 256) Slot _ e;
+      release-source = λ e slot. done (ltb slot 256) Slot _ e;
+      release-source-leaves = λ e slot. done-leaves (ltb slot 256) Slot _ e;
+      advance = λ e n. done (leb (e .clock .sample + n) (2 ^ 40)) Elapsed _ e;
+      advance-leaves = λ e n. done-leaves (leb (e .clock .sample + n) (2 ^ 40)) Elapsed _ e;
+      trigger = λ e slot. fired (reservedOf e .engine) slot _;
+      trigger-leaves = λ e slot. fired-leaves (reservedOf e .engine) slot _;
+      reserved = fired;
+      reserved-leaves = fired-leaves;
+      frame = λ e binHz seconds. framed (accepted seconds) e (takenOf e binHz seconds) refl;
+      frame-leaves = λ e binHz seconds. framed-leaves (accepted seconds) e (takenOf e binHz seconds);
+      bin-table = λ rate size old. tabled (lawfulRate rate) (ltb size 1) (ltb 16384 size) (eqb (length old) (size / 2 + 1)) _ old .0;
+      bin-table-leaves = λ rate size old. tabled (lawfulRate rate) (ltb size 1) (ltb 16384 size) (eqb (length old) (size / 2 + 1)) _ old .1;
+      gains = λ f depth logs scratch output. passed-on f depth logs scratch output .0;
+      gains-leave = λ f depth logs scratch output. passed-on f depth logs scratch output .1;
+      field =
+          λ s first.
+          let k = kindOf (getD s 0 0) in
+          field-read (eqb (length s) 0) first (ltb (length s) 3) (misplaced (getD s 0 0) first) (unknown (getD s 0 0)) (eqb (be16 s 1) (lengthOf k)) (leb (lengthOf k) (length s - 3)) (lawful k (drop 3 s)) _ _;
+      entry = λ s o. entered (eqb (length o) 2308) (leb (length s) 60000) _ _ refl;
+      entry-leaves = entry-unwritten;
+    }

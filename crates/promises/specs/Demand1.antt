@@ -1,0 +1,125 @@
+-- DEMAND 1, as it is promised: for each call the tests of the scope in their order, each with the number that it gives, and what a refusal leaves.
+use Prim.Native.Nat.{ℕ, _+_, _-_, _/_, _^_}
+use mathlib.Core.Path.{_≡_}
+use mathlib.Core.Logic.{_↔_}
+use mathlib.Core.Bool.{Bool, true, false, not, _&&_, _||_}
+use mathlib.Core.List.{List, [], _∷_, _++_}
+use lib.Dec.{eqb, ltb, leb}
+use lib.ListN.{length, getD, drop}
+use lib.Ieee.{Float, le}
+use lib.Ieee.Scale.{finite}
+use Rattle.lists.specs.Pick.{pick}
+use Rattle.floats.specs.Names.{f32}
+use Rattle.refusals.specs.Numbers.{numberOf, answerOf}
+use Rattle.settings.specs.declared.Config.{Config}
+use Rattle.sources.specs.declared.Source.{Source}
+use Rattle.state.specs.declared.Done.{Done}
+use Rattle.state.specs.declared.Engine.{Engine}
+use Rattle.state.specs.Make.{preparedOf, newOn}
+use Rattle.engine.specs.New.{newEngineOf}
+use Rattle.engine.specs.Advance.{advancedOf}
+use Rattle.source_calls.specs.Slots.{setSourceOf, retireSourceOf, releaseSourceOf}
+use Rattle.changes.specs.Changes.{configuredOf}
+use Rattle.triggers.specs.Triggers.{outcomeNumber, reservedOf, triggeredBy, triggeredOf}
+use Rattle.windows.specs.declared.Frame.{Frame}
+use Rattle.windows.specs.Opening.{emptyFrame}
+use Rattle.frame.specs.Call.{framedOf}
+use Rattle.bin_tables.specs.Bins as bins
+use Rattle.bin_tables.specs.Logs.{lawfulLogs}
+use Rattle.mask.specs.Gains.{gainsOf}
+use Rattle.script.specs.declared.Read.{Read}
+use Rattle.script.specs.declared.Read.the-variants as R
+use Rattle.script.specs.Bytes.{be16}
+use Rattle.script.specs.Table.{kindOf, lengthOf, lawful}
+use Rattle.script.specs.Field.{misplaced, unknown, readOf}
+use Rattle.listing.specs.Ended.{badOf, lastTurn}
+use Rattle.entry.specs.Entry.{entryAnswer, entryBytes}
+
+-- a test, and the number that is given where it is the first to hold
+abbrev pub Row : Type 0
+Row = Bool × ℕ
+
+-- the number of the first test that holds; 0, a call that is taken, where none does
+unfoldable pub firstOf : List Row → ℕ
+firstOf [] = 0
+firstOf (row ∷ rows) = pick (row .0) (row .1) (firstOf rows)
+
+abbrev pub NoneHolds : List Row → Type 0
+NoneHolds [] = Unit {0}
+NoneHolds (row ∷ rows) = (row .0 ≡ false) × NoneHolds rows
+
+-- a row with the number k holds, and none before it does
+pub record Given (rows : List Row) (k : ℕ) : Type 0 where
+  pub before : List Row
+  pub after : List Row
+  pub split : rows ≡ before ++ (true, k) ∷ after
+  pub none : NoneHolds before
+
+-- ---- the tests
+-- 1: the rate is not finite, or outside 8,000 to 384,000
+abbrev pub badRate : Float → Bool
+badRate rate = not (finite rate && (le (f32 0x45fa0000) rate && le rate (f32 0x48bb8000)))
+
+-- 2: slot 256 or above
+abbrev pub badSlot : ℕ → Bool
+badSlot slot = not (ltb slot 256)
+
+abbrev pub readNumber : Read → ℕ
+readNumber (R.Field f k) = 0
+readNumber (R.Bad r) = numberOf r
+readNumber R.End = 0
+
+-- a refusal leaves the engine as it was
+abbrev pub Kept : Engine → Done → Type 0
+Kept e d = (answerOf (d .answer) ≡ 0 → ⊥) → d .engine ≡ e
+
+pub record Demand1 : Type 0 where
+  -- an equation with `firstOf` is the exact condition both ways
+  pub exactly : (rows : List Row) (k : ℕ) → (k ≡ 0 → ⊥) → (firstOf rows ≡ k) ↔ Given rows k
+  pub new : (rate : Float) → answerOf (newEngineOf rate .answer) ≡ firstOf ((badRate rate, 1) ∷ [])
+  pub new-leaves : (rate : Float) → badRate rate ≡ true → newEngineOf rate .engine ≡ newOn (preparedOf (f32 0x473b8000))
+  pub configure : (e : Engine) (c : Config) → answerOf (configuredOf e c .answer) ≡ firstOf ((ltb 16384 (c .«hop_samples»), 3) ∷ [])
+  pub configure-leaves : (e : Engine) (c : Config) → Kept e (configuredOf e c)
+  pub set-source : (e : Engine) (slot : ℕ) (s : Source) → answerOf (setSourceOf e slot s .answer) ≡ firstOf ((badSlot slot, 2) ∷ [])
+  pub set-source-leaves : (e : Engine) (slot : ℕ) (s : Source) → Kept e (setSourceOf e slot s)
+  pub retire-source : (e : Engine) (slot : ℕ) → answerOf (retireSourceOf e slot .answer) ≡ firstOf ((badSlot slot, 2) ∷ [])
+  pub retire-source-leaves : (e : Engine) (slot : ℕ) → Kept e (retireSourceOf e slot)
+  pub release-source : (e : Engine) (slot : ℕ) → answerOf (releaseSourceOf e slot .answer) ≡ firstOf ((badSlot slot, 2) ∷ [])
+  pub release-source-leaves : (e : Engine) (slot : ℕ) → Kept e (releaseSourceOf e slot)
+  pub advance : (e : Engine) (n : ℕ) → answerOf (advancedOf e n .answer) ≡ firstOf ((not (leb (e .clock .sample + n) (2 ^ 40)), 4) ∷ [])
+  pub advance-leaves : (e : Engine) (n : ℕ) → Kept e (advancedOf e n)
+  -- a trigger for a missing slot has used its index, and no more
+  pub trigger : (e : Engine) (slot : ℕ) → outcomeNumber (triggeredOf e slot .outcome) ≡ firstOf ((badSlot slot, 2) ∷ [])
+  pub trigger-leaves : (e : Engine) (slot : ℕ) → badSlot slot ≡ true → triggeredOf e slot .engine ≡ reservedOf e .engine
+  pub reserved : (e : Engine) (slot index : ℕ) → outcomeNumber (triggeredBy e slot index .outcome) ≡ firstOf ((badSlot slot, 2) ∷ [])
+  pub reserved-leaves : (e : Engine) (slot index : ℕ) → badSlot slot ≡ true → triggeredBy e slot index .engine ≡ e
+  -- 7: the seconds are negative or not finite; minus zero is not below 0
+  pub frame : (e : Engine) (binHz seconds : Float) → answerOf (framedOf e binHz seconds .answer) ≡ firstOf ((not (finite seconds && le (f32 0) seconds), 7) ∷ [])
+  pub frame-leaves : (e : Engine) (binHz seconds : Float) → not (finite seconds && le (f32 0) seconds) ≡ true
+      → (framedOf e binHz seconds .engine ≡ e) × (framedOf e binHz seconds .frame ≡ emptyFrame)
+  -- 1, 3, 5, 6 in this order
+  pub bin-table : (rate : Float) (size : ℕ) (old : List Float)
+      → answerOf (bins.preparedOf rate size old .0) ≡ firstOf ((badRate rate, 1) ∷ (ltb size 1 || ltb 16384 size, 3) ∷ (not (eqb (length old) (size / 2 + 1)), 5) ∷ [])
+  pub bin-table-leaves : (rate : Float) (size : ℕ) (old : List Float) → (answerOf (bins.preparedOf rate size old .0) ≡ 0 → ⊥) → bins.preparedOf rate size old .1 ≡ old
+  pub gains : (f : Frame) (depth : Float) (logs scratch output : List Float)
+      → answerOf (gainsOf f depth logs scratch output .0)
+      ≡ firstOf ((not (eqb (length output) (length scratch)) || not (eqb (length output) (length logs)), 5) ∷ (not (lawfulLogs logs), 6) ∷ [])
+  pub gains-leave : (f : Frame) (depth : Float) (logs scratch output : List Float) → (answerOf (gainsOf f depth logs scratch output .0) ≡ 0 → ⊥)
+      → (gainsOf f depth logs scratch output .1 ≡ scratch) × (gainsOf f depth logs scratch output .2 ≡ output)
+  -- a field of a script, at the start of s: the first one or a later one. A script that ends where a later field could begin is not bad.
+  pub field : (s : List ℕ) (first : Bool)
+      → readNumber (readOf s first)
+      ≡ firstOf
+      ((eqb (length s) 0 && first, 11)
+      ∷ (eqb (length s) 0, 0)
+      ∷ (ltb (length s) 3, 9)
+      ∷ (misplaced (getD s 0 0) first, 11)
+      ∷ (unknown (getD s 0 0), 8)
+      ∷ (not (eqb (be16 s 1) (lengthOf (kindOf (getD s 0 0)))), 9)
+      ∷ (not (leb (lengthOf (kindOf (getD s 0 0))) (length s - 3)), 9)
+      ∷ (not (lawful (kindOf (getD s 0 0)) (drop 3 s)), 10)
+      ∷ [])
+  -- a whole script, for a host: 5, 12, or the number of the field that stopped it
+  pub entry : (s o : List ℕ)
+      → answerOf (entryAnswer s o) ≡ firstOf ((not (eqb (length o) 2308), 5) ∷ (not (leb (length s) 60000), 12) ∷ (true, answerOf (badOf (lastTurn s .line))) ∷ [])
+  pub entry-leaves : (s o : List ℕ) → (answerOf (entryAnswer s o) ≡ 0 → ⊥) → entryBytes s o ≡ o

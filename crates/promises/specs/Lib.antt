@@ -1,0 +1,5 @@
+pub mod Demand1
+pub mod Demand3
+pub mod Life
+pub mod Marked
+pub mod Runs

@@ -1,0 +1,76 @@
+-- The state has 14,176 bytes, and the ways out of handing it over.
+use Prim.Native.Nat.{ℕ, zero, suc, _+_, _*_, _≤_, _<_}
+use mathlib.Core.Path.{_≡_, refl, sym, _∙_}
+use mathlib.Core.List.{List}
+use native.Mathlib.Nat.{zero-mul, suc-mul, add-comm}
+use native.Mathlib.Omega.{arith}
+use lib.ListN.{length, length-append}
+use lib.Ieee.{Float}
+use borrow.Author.Tests.{lt-ltb, le-ltb}
+use Rattle.lists.specs.Pick.{pick}
+use Rattle.text.specs.Put.{Put}
+use Rattle.refusals.specs.declared.Answer.the-variants.{Taken, Refused}
+use Rattle.refusals.specs.declared.Refusal.{Refusal}
+use Rattle.state.specs.declared.Engine.{Engine}
+use Rattle.listing.specs.declared.Ended.{Ended}
+use Rattle.listing.specs.Late.{ranLate}
+use Rattle.replay.specs.State.{joined, wordBytes, wordsBytes, harmonicsBytes, streamsBytes, sourcesBytes, particlesBytes, stateBytes}
+use Rattle.replay.specs.Replay.{stateCount, stateLeft}
+
+-- pieces of one length
+joined-length : (g : ℕ → List ℕ) (k : ℕ) → ((i : ℕ) → length (g i) ≡ k) → (i n : ℕ) → length (joined g i n) ≡ n * k
+unfolding joined
+joined-length g k h i zero = sym (zero-mul k)
+joined-length g k h i (suc n) = length-append (g i) (joined g (suc i) n) ∙ rw (h i, joined-length g k h (suc i) n) (add-comm k (n * k)) ∙ sym (suc-mul n k)
+
+word-length : (n : ℕ) → length (wordBytes n) ≡ 8
+unfolding wordBytes
+word-length n = refl
+
+words-length : (ws : List ℕ) → length (wordsBytes ws) ≡ length ws * 8
+unfolding wordsBytes
+words-length ws = joined-length _ 8 (λ i. word-length _) 0 (length ws)
+
+harmonics-length : (a b c : List Float) → length (harmonicsBytes a b c) ≡ 576
+unfolding harmonicsBytes
+harmonics-length a b c = joined-length _ 24 (λ i. words-length _) 0 24
+
+module _ (e : Engine) where
+  streams-length : length (streamsBytes (e .streams)) ≡ 72
+  unfolding streamsBytes
+  streams-length = joined-length _ 24 (λ i. words-length _) 0 3
+
+  sources-length : length (sourcesBytes (e .sources)) ≡ 6144
+  unfolding sourcesBytes
+  sources-length = joined-length _ 24 (λ i. words-length _) 0 256
+
+  particles-length : length (particlesBytes (e .particles)) ≡ 7168
+  unfolding particlesBytes
+  particles-length = joined-length _ 112 (λ i. words-length _) 0 64
+
+  pub state-length : length (stateBytes e) ≡ 14176
+  unfolding stateBytes
+  state-length =
+      rw (length-append, length-append, length-append, length-append, length-append, length-append, words-length, words-length, words-length, harmonics-length, streams-length, sources-length, particles-length)
+
+-- numbers that are known by an equation
+pub words-are : {o p : List ℕ} {at r : ℕ} {x y : List ℕ} → x ≡ y → Put o p at r (wordsBytes x) → Put o p at r (wordsBytes y)
+words-are e put = rw e at put
+
+module _ (start : ℕ) (s o : List ℕ) where
+  pub short : length o < 14176 → (0 ≡ stateCount start s o) × (o ≡ stateLeft start s o)
+  unfolding stateCount stateLeft pick
+  short h = (rw (lt-ltb _ _ h), rw (lt-ltb _ _ h))
+
+  module _ (e : Ended) (room : 14176 ≤ length o) (q : e ≡ ranLate start s) where
+    pub shown : {p : List ℕ} {r : ℕ} → e .answer ≡ Taken → Put o p 0 r (stateBytes (e .engine)) → (r ≡ stateCount start s o) × (p ≡ stateLeft start s o)
+    unfolding stateCount stateLeft pick
+    shown {p} {r} t put =
+        let n = state-length (e .engine) in
+        let f = put .fits (omega (arith, n)) in
+        let c : r ≡ 14176 = omega (arith, f .0, n) in
+        (rw (le-ltb _ _ room, ← q, t) c, rw (le-ltb _ _ room, ← q, t) (f .1))
+
+    pub bad : (k : Refusal) → e .answer ≡ Refused k → (0 ≡ stateCount start s o) × (o ≡ stateLeft start s o)
+    unfolding stateCount stateLeft pick
+    bad k t = (rw (le-ltb _ _ room, ← q, t), rw (le-ltb _ _ room, ← q, t))

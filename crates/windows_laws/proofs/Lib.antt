@@ -1,0 +1,2 @@
+pub mod Tapered
+pub mod UpperHalf
