@@ -16,8 +16,8 @@ use std::fmt::Write;
 use std::fs;
 use std::path::Path;
 
-/// A byte that counts the bytes of a line leaves room for no more; fields are far shorter.
-const LINE: usize = 200;
+/// A longer field goes on in the next line, since two digits count a line's bytes.
+const LINE: usize = 255;
 
 pub fn cases(folder: &Path, list: &str) -> Option<String> {
     let mut out = String::new();
