@@ -1,17 +1,17 @@
 //! The stored cases of `script_vectors`: scripts with the original's listings and last frames, in a
 //! form that the program reads with no Rust at hand.
 //!
-//! A line of the list is `listing KIND SEED BYTES` or `frame KIND SEED BYTES`, for the first BYTES
-//! bytes of a generated script, or `example NAME`, for a script of a folder. A case is a header, the
-//! script and, where it is asked for, the listing. The header gives 0 for a listing or 1 for a frame,
-//! a name, the seed, the script's length, the listing's length or the entry's answer, and the digest
-//! of the 2,308 bytes. The script has a field to a line: how many bytes more it gives by repetition,
-//! how many it has, and they.
+//! A line of the list is `listing KIND SEED BYTES`, `late KIND SEED BYTES` (from the script's late
+//! start) or `frame KIND SEED BYTES`, for the first BYTES bytes of a generated script, or `example
+//! NAME`, for a script of a folder. A case is a header, the script and, where it is asked for, the
+//! listing. The header gives a name, the seed and the script's length; for a listing 0, its length and
+//! the start; for a frame 1, the entry's answer and the digest of the 2,308 bytes. The script has a
+//! field to a line: how many bytes more it gives by repetition, how many it has, and they.
 use crate::bytes::{last_frame, SIZE};
 use crate::digest::Digest;
-use crate::gen;
 use crate::listing::listing;
 use crate::original::Engine;
+use crate::{gen, late};
 use std::fmt::Write;
 use std::fs;
 use std::path::Path;
@@ -26,14 +26,15 @@ pub fn cases(folder: &Path, list: &str) -> Option<String> {
         match words[..] {
             ["example", name] => {
                 let script = fs::read(folder.join(name).with_extension("script")).ok()?;
-                listed(&mut out, &format!("ex-{name}"), 0, &script);
+                listed(&mut out, &format!("ex-{name}"), 0, 0, &script);
             }
             [what, kind, seed, bytes] => {
                 let seed = seed.parse().ok()?;
-                let script = gen::script(seed, gen::named(kind)?);
-                let script = script.get(..bytes.parse().ok()?)?;
+                let whole = gen::script(seed, gen::named(kind)?);
+                let script = whole.get(..bytes.parse().ok()?)?;
                 match what {
-                    "listing" => listed(&mut out, kind, seed, script),
+                    "listing" => listed(&mut out, kind, seed, 0, script),
+                    "late" => listed(&mut out, kind, seed, late::start(seed, &whole), script),
                     "frame" => framed(&mut out, kind, seed, script),
                     _ => return None,
                 }
@@ -44,14 +45,10 @@ pub fn cases(folder: &Path, list: &str) -> Option<String> {
     Some(out)
 }
 
-fn listed(out: &mut String, name: &str, seed: u64, script: &[u8]) {
-    let text = listing::<Engine>(0, script);
-    header(
-        out,
-        0,
-        name,
-        [seed, script.len() as u64, text.len() as u64, 0],
-    );
+fn listed(out: &mut String, name: &str, seed: u64, start: u64, script: &[u8]) {
+    let text = listing::<Engine>(start, script);
+    let lengths = [script.len() as u64, text.len() as u64];
+    header(out, 0, name, [seed, lengths[0], lengths[1], start]);
     fields(out, script);
     out.push_str(&text);
 }

@@ -120,7 +120,8 @@ fn listing_differs(line: &[u8; 84], script: &mut [u8], want: &mut [u8], out: &mu
     let n = read_script(script, vectors::second(line) as usize);
     let m = until(0, vectors::third(line) as usize, want.len());
     io::read_full(0, &mut want[..m]);
-    match listing::list_script(&script[..n], out) {
+    let start = vectors::answer(line);
+    match listing::list_script_from(start, &script[..n], out) {
         Listed::Count(k) => {
             if k <= out.len() {
                 return !same(&out[..k], &want[..m]);

@@ -27,14 +27,17 @@ slice-aggregate-read-full c = sym (length-take-le _ _ (omega arith))
 read-full-requires : tie.Need-read-full-requires
 read-full-requires c κs = search needs
 
-slice-reshare-prefix-list-script : tie.Need-slice-reshare-prefix-list-script
-slice-reshare-prefix-list-script c = search needs
+answer-requires : tie.Need-answer-requires
+answer-requires c κs = search needs
 
-slice-aggregate-list-script : tie.Need-slice-aggregate-list-script
-slice-aggregate-list-script c = sym (length-take-le _ _ (omega arith))
+slice-reshare-prefix-list-script-from : tie.Need-slice-reshare-prefix-list-script-from
+slice-reshare-prefix-list-script-from c = search needs
 
-list-script-requires : tie.Need-list-script-requires
-list-script-requires c κs = search needs
+slice-aggregate-list-script-from : tie.Need-slice-aggregate-list-script-from
+slice-aggregate-list-script-from c = sym (length-take-le _ _ (omega arith))
+
+list-script-from-requires : tie.Need-list-script-from-requires
+list-script-from-requires c κs = search needs
 
 enum-known-k : tie.Need-enum-known-k
 enum-known-k c = search needs
@@ -104,9 +107,10 @@ listing-differs-spec =
     slice-relend-prefix-read-full
     slice-aggregate-read-full
     read-full-requires
-    slice-reshare-prefix-list-script
-    slice-aggregate-list-script
-    list-script-requires
+    answer-requires
+    slice-reshare-prefix-list-script-from
+    slice-aggregate-list-script-from
+    list-script-from-requires
     enum-known-k
     slice-reshare-prefix-same
     slice-aggregate-same
