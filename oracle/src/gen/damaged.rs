@@ -15,6 +15,9 @@ pub fn damaged(d: &mut Draws) -> Vec<u8> {
     };
     let mut bytes = (kind.make)(d);
     for _ in 0..d.among(1, 3) {
+        if bytes.is_empty() {
+            break;
+        }
         let at = d.below(bytes.len() as u64) as usize;
         match d.below(6) {
             0 => bytes.truncate(at + 1),
@@ -29,9 +32,6 @@ pub fn damaged(d: &mut Draws) -> Vec<u8> {
                 let copy = bytes[at..end].to_vec();
                 bytes.splice(at..at, copy);
             }
-        }
-        if bytes.is_empty() {
-            break;
         }
     }
     tame(bytes)
