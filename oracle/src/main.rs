@@ -54,6 +54,7 @@ use std::process::ExitCode;
 
 const USAGE: &str = "\
 oracle listing [HOW] < script     the listing
+oracle port < script              the listing that the port prints
 oracle bytes < script             the last frame's 2,308 bytes; the status is the entry's answer
 oracle state [HOW] < script       every field of the state by name, after every field
 oracle gen SEED KIND > script     a script
@@ -90,6 +91,14 @@ fn command(words: &[&str]) -> io::Result<u8> {
                 None => return usage(),
             };
             write!(out, "{text}")?;
+        }
+        ["port"] => {
+            let script = input()?;
+            let mut lent = vec![0; scripts::room_for(&script)];
+            let Some(length) = port::listing(&script, &mut lent) else {
+                return Err(io::Error::other("the archives have no listing"));
+            };
+            out.write_all(&lent[..length])?;
         }
         ["bytes"] => {
             let mut lent = [0; bytes::SIZE];
