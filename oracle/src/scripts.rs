@@ -196,10 +196,15 @@ pub fn room_for(script: &[u8]) -> usize {
 /// The listing of a script on an engine that has counted `start` samples.
 fn listing_same(start: u64, script: &[u8]) -> Option<bool> {
     let want = listing::<Engine>(start, script);
-    filled(room_for(script), script, Some(want.as_bytes()), |out| match start {
-        0 => port::listing(script, out),
-        _ => port::listing_from(start, script, out),
-    })
+    filled(
+        room_for(script),
+        script,
+        Some(want.as_bytes()),
+        |out| match start {
+            0 => port::listing(script, out),
+            _ => port::listing_from(start, script, out),
+        },
+    )
 }
 
 /// The state after a script, or nothing where it goes bad.
