@@ -47,7 +47,11 @@ fn field(bytes: &mut Vec<u8>, tag: u8, value: &[u8]) {
 }
 
 fn settings(c: &Config) -> Vec<u8> {
-    let mut value = vec![c.enabled as u8, (c.shape == Shape::Cloud) as u8, c.direction as u8];
+    let mut value = vec![
+        c.enabled as u8,
+        (c.shape == Shape::Cloud) as u8,
+        c.direction as u8,
+    ];
     for x in [c.rate_hz, c.size_octaves, c.phase] {
         value.extend(x.to_bits().to_be_bytes());
     }

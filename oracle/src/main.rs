@@ -29,6 +29,7 @@ mod scripts;
 #[cfg(not(linked))]
 mod standin;
 mod state;
+mod stored;
 mod value;
 
 /// The original with our functions.
@@ -53,6 +54,7 @@ use std::process::ExitCode;
 
 const USAGE: &str = "\
 oracle listing [HOW] < script     the listing
+oracle port < script              the listing that the port prints
 oracle bytes < script             the last frame's 2,308 bytes; the status is the entry's answer
 oracle state [HOW] < script       every field of the state by name, after every field
 oracle gen SEED KIND > script     a script
@@ -62,6 +64,7 @@ oracle compare N STEPS            compares the port with the original on N scrip
                                   most so many samples and fields; status 1 on a difference
 oracle calls SEED N               N rounds of single functions of the original, arguments and answers
 oracle masks SEED N               N mask calls, bin tables and attenuations, as short numbers
+oracle stored FOLDER < list       the scripts of a list with their answers; examples stand in FOLDER
 oracle digest N                   a line for each of N scripts of every kind
 HOW is plain (with std's functions), from START (on an engine that has counted so many samples), or both
 ";
@@ -88,6 +91,14 @@ fn command(words: &[&str]) -> io::Result<u8> {
                 None => return usage(),
             };
             write!(out, "{text}")?;
+        }
+        ["port"] => {
+            let script = input()?;
+            let mut lent = vec![0; scripts::room_for(&script)];
+            let Some(length) = port::listing(&script, &mut lent) else {
+                return Err(io::Error::other("the archives have no listing"));
+            };
+            out.write_all(&lent[..length])?;
         }
         ["bytes"] => {
             let mut lent = [0; bytes::SIZE];
@@ -139,6 +150,13 @@ fn command(words: &[&str]) -> io::Result<u8> {
             write!(out, "{}", masks::mask_lines(seed, count).0)?;
             write!(out, "{}", masks::bin_lines(seed, count))?;
             write!(out, "{}", masks::attenuation_lines(seed, count))?;
+        }
+        ["stored", folder] => {
+            let list = String::from_utf8_lossy(&input()?).into_owned();
+            let Some(cases) = stored::cases(folder.as_ref(), &list) else {
+                return usage();
+            };
+            out.write_all(cases.as_bytes())?;
         }
         ["digest", seeds] => {
             let Ok(seeds) = seeds.parse() else {

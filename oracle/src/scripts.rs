@@ -184,18 +184,27 @@ fn entry_same(script: &[u8]) -> Option<bool> {
     Some(answer == last_frame::<Engine>(script, &mut want) && got == want)
 }
 
+/// What the port wants lent for a listing: a field of three bytes has a line of at most 204, and one
+/// line ends it.
+pub fn room_for(script: &[u8]) -> usize {
+    match script.len() {
+        0..=SCRIPT_LIMIT => 68 * script.len() + 204,
+        _ => 204,
+    }
+}
+
 /// The listing of a script on an engine that has counted `start` samples.
 fn listing_same(start: u64, script: &[u8]) -> Option<bool> {
     let want = listing::<Engine>(start, script);
-    // What the port wants: a field of three bytes has a line of at most 204, and one line ends it.
-    let room = match script.len() {
-        0..=SCRIPT_LIMIT => 68 * script.len() + 204,
-        _ => 204,
-    };
-    filled(room, script, Some(want.as_bytes()), |out| match start {
-        0 => port::listing(script, out),
-        _ => port::listing_from(start, script, out),
-    })
+    filled(
+        room_for(script),
+        script,
+        Some(want.as_bytes()),
+        |out| match start {
+            0 => port::listing(script, out),
+            _ => port::listing_from(start, script, out),
+        },
+    )
 }
 
 /// The state after a script, or nothing where it goes bad.

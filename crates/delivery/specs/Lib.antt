@@ -1,2 +1,1 @@
-pub mod Birth
 pub mod Sample

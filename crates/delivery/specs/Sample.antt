@@ -17,7 +17,7 @@ use Rattle.state.specs.declared.Clock.{Clock}
 use Rattle.state.specs.declared.Engine.{Engine}
 use Rattle.state.specs.declared.Next.{Next}
 use Rattle.state.specs.State.{grown, withClock, withNext, withStreams, pastStream}
-use Rattle.delivery.specs.Birth.{bornOf}
+use Rattle.bearing.specs.Birth.{bornOf}
 
 -- ---- Sprinkle
 -- self.streams[lane].index = ..; self.streams[lane].prepare(..)

@@ -1,8 +1,5 @@
-// What a sample delivers: one birth, and the sample that asks for it.
-mod bear;
+// What a sample delivers: the births that fall due, and then the clock.
 mod sample;
 
-pub use bear::birth;
+pub use bearing::birth;
 pub use sample::step;
-
-pub const MAX_BIRTH_ATTEMPTS: u64 = 64;

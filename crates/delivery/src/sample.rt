@@ -22,7 +22,7 @@ fn try_lane(engine: Engine, lane: usize, reference: f64) -> Engine
     out.streams[lane] = moved;
     if stream.emit {
         if config.enabled {
-            return crate::birth(
+            return bearing::birth(
                 out,
                 draws::sprinkle_key(lane, stream.index),
                 sources::MAX_SOURCES,
@@ -70,7 +70,7 @@ fn cloud(engine: Engine, reference: f64) -> Engine
         let mut out = engine;
         out.next.opportunity = after;
         if config.enabled {
-            return crate::birth(out, index, sources::MAX_SOURCES);
+            return bearing::birth(out, index, sources::MAX_SOURCES);
         }
         return out;
     }

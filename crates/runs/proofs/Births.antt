@@ -12,7 +12,7 @@ use Rattle.state.specs.declared.Engine.{Engine}
 use Rattle.state.specs.declared.Next.{Next}
 use Rattle.state.specs.declared.Tally.{Tally}
 use Rattle.state.specs.State.{grown, withNext, withParticles, withStreams, withTally}
-use Rattle.delivery.specs.Birth.{bornOf, attemptedOf, admittedOf}
+use Rattle.bearing.specs.Birth.{bornOf, attemptedOf, admittedOf}
 use Rattle.delivery.specs.Sample.{triedOf, laneOf, lanesOf, cloudOf, byShape, deliveredOf, tickedOf, steppedOf}
 
 -- a birth changes these three groups alone: what reads none of them reads the same after it

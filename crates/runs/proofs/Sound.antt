@@ -31,7 +31,7 @@ use Rattle.floats_laws.proofs.Unit.{Unit}
 use Rattle.state.specs.declared.Engine.{Engine}
 use Rattle.state.specs.State.{pastSource}
 use Rattle.state.specs.declared.Prepared.{Prepared}
-use Rattle.delivery.specs.Birth.{voiceFor, newbornFor}
+use Rattle.bearing.specs.Birth.{voiceFor, newbornFor}
 use Rattle.state.specs.Make.{preparedOf}
 use Rattle.lists.specs.Every.{Every, every-getD, in-case}
 use Rattle.floats_laws.proofs.Fitting.{own-convert}

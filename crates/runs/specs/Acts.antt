@@ -26,7 +26,7 @@ use Rattle.state.specs.declared.Engine.{Engine}
 use Rattle.state.specs.declared.Next.{Next}
 use Rattle.state.specs.State.{grown, withClock, withConfig, withNext, withParticles, withStreams, withWeights, pastSource, pastStream}
 use Rattle.state.specs.Make.{weightsOf}
-use Rattle.delivery.specs.Birth.{bornOf}
+use Rattle.bearing.specs.Birth.{bornOf}
 use Rattle.delivery.specs.Sample.{triedOf, laneOf, opportunityAfter, withOpportunity, referenceNow, deliveredOf, tickedOf, steppedOf}
 use Rattle.engine.specs.Advance.{advancedOf}
 use Rattle.changes.specs.Changes.{retiredAll, sameKind, reweighed, switched, offset, offsetTo, enters, preparedAll, withNotes, soughtClock, soughtNext, configuredOf, notesOf, soughtOf}

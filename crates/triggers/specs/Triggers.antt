@@ -16,7 +16,7 @@ use Rattle.triggers.specs.declared.Outcome.the-variants.{Born, NotEligib
 use Rattle.triggers.specs.declared.Reserved.{Reserved}
 use Rattle.triggers.specs.declared.Triggered.{Triggered}
 use Rattle.state.specs.State.{grown, withNext, pastSource}
-use Rattle.delivery.specs.Birth.{bornOf}
+use Rattle.bearing.specs.Birth.{bornOf}
 
 -- 01's number of an outcome: 0 unless it is a refusal
 abbrev pub outcomeNumber : Outcome → ℕ

@@ -4,7 +4,7 @@ ghost use mathlib.Core.Path.{_≡_};
 ghost use Prim.Native.Nat.{_+_, _≤_, _<_};
 ghost use Rattle.vectors.specs.Line.{digitOf, numberAt};
 
-fn digit(b: u8) -> u64
+pub fn digit(b: u8) -> u64
     ensures { λ r. ⌜ (r ≡ digitOf b) × (r < 16) ⌝ }
 {
     if b < 48 {

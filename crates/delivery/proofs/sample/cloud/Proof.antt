@@ -3,7 +3,7 @@ use Prim.Native.Nat.{ℕ}
 use mathlib.Core.Path.{refl, sym, ap, _∙_}
 use Rattle.lists.specs.Pick.{took, skipped}
 use lib.Ieee.{Float, le}
-use Rattle.delivery.specs.Birth.{bornOf}
+use Rattle.bearing.specs.Birth.{bornOf}
 use Rattle.delivery.specs.Sample.{withOpportunity, cloudOf}
 use Rattle.state.specs.State.{withNext}
 use borrow.Author.Needs.{needs}

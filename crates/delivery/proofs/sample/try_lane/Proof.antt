@@ -2,7 +2,7 @@
 use Prim.Native.Nat.{ℕ}
 use mathlib.Core.Path.{refl, ap, _∙_}
 use Rattle.lists.specs.Pick.{took, skipped}
-use Rattle.delivery.specs.Birth.{bornOf}
+use Rattle.bearing.specs.Birth.{bornOf}
 use Rattle.delivery.specs.Sample.{triedOf}
 use Rattle.state.specs.State.{withStreams, pastStream}
 use Rattle.state.specs.declared.Engine.{Engine}
