@@ -1,5 +1,5 @@
 -- The state has 14,176 bytes, and the ways out of handing it over.
-use Prim.Native.Nat.{ℕ, zero, suc, _+_, _*_, _≤_, _<_}
+use Prim.Native.Nat.{ℕ, zero, suc, _*_, _≤_, _<_}
 use mathlib.Core.Path.{_≡_, refl, sym, _∙_}
 use mathlib.Core.List.{List}
 use native.Mathlib.Nat.{zero-mul, suc-mul, add-comm}

@@ -7,7 +7,6 @@ use Rattle.lists.specs.Pick.{pick}
 use Rattle.text.specs.Put.{splice}
 use Rattle.refusals.specs.declared.Answer.{Answer}
 use Rattle.refusals.specs.declared.Answer.the-variants.{Taken, Refused}
-use Rattle.listing.specs.declared.Ended.{Ended}
 use Rattle.listing.specs.declared.Listed.{Listed}
 use Rattle.listing.specs.declared.Listed.the-variants.{Count, NoRoom}
 use Rattle.listing.specs.Late.{ranLate}

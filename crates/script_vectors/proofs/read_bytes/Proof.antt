@@ -1,9 +1,8 @@
 -- `read_bytes` is safe and ends: the loop stops at the script's end at the latest.
 use borrow.Author.Needs.{needs}
 use Prim.Native.Nat.{_≤_, _-_}
-use mathlib.Core.Path.{_≡_, refl, _∙_}
-use native.Mathlib.Omega.{arith}
-use lib.ListN.{length, length-set}
+use mathlib.Core.Path.{_≡_}
+use lib.ListN.{length}
 use Rattle.script_vectors.proofs.read_bytes.Statement.{statement}
 use Rattle.script_vectors.proofs.read_bytes.Tie as tie
 

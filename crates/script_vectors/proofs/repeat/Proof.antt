@@ -1,9 +1,8 @@
 -- `repeat` is safe and ends: the loop reads n places back, which are there.
 use borrow.Author.Needs.{needs}
 use Prim.Native.Nat.{_≤_, _-_}
-use mathlib.Core.Path.{_≡_, refl, _∙_}
-use native.Mathlib.Omega.{arith}
-use lib.ListN.{length, length-set}
+use mathlib.Core.Path.{_≡_}
+use lib.ListN.{length}
 use Rattle.script_vectors.proofs.repeat.Statement.{statement}
 use Rattle.script_vectors.proofs.repeat.Tie as tie
 

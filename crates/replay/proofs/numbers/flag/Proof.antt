@@ -1,7 +1,6 @@
 -- `flag` meets its contract: one test.
 use Rattle.lists.specs.Pick.{pick}
 use Rattle.replay.specs.Numbers.{flagOf}
-use borrow.Author.Needs.{needs}
 use Rattle.replay.proofs.numbers.flag.Statement.{statement}
 use Rattle.replay.proofs.numbers.flag.Tie as tie
 

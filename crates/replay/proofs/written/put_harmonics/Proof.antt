@@ -1,6 +1,6 @@
 -- `put_harmonics` meets its contract: piece by piece.
 use Prim.Native.Nat.{_-_}
-use mathlib.Core.Path.{refl, ap, _∙_}
+use mathlib.Core.Path.{ap}
 use lib.ListN.{getD}
 use lib.Ieee.{nan}
 use Rattle.replay.specs.Numbers.{harmonicOf}

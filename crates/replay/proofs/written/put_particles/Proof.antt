@@ -1,8 +1,7 @@
 -- `put_particles` meets its contract: piece by piece.
 use Prim.Native.Nat.{_-_}
-use mathlib.Core.Path.{refl, ap, _∙_}
+use mathlib.Core.Path.{ap, _∙_}
 use lib.ListN.{getD}
-use Rattle.pool.specs.declared.Particle.{Particle}
 use Rattle.pool.specs.Pool.{freeParticle}
 use Rattle.lists.specs.Default.{getD-any}
 use Rattle.replay.specs.Numbers.{particleOf}

@@ -1,8 +1,7 @@
 -- `put_sources` meets its contract: piece by piece.
 use Prim.Native.Nat.{_-_}
-use mathlib.Core.Path.{refl, ap, _∙_}
+use mathlib.Core.Path.{ap, _∙_}
 use lib.ListN.{getD}
-use Rattle.sources.specs.declared.Source.{Source}
 use Rattle.sources.specs.Sources.{noSource}
 use Rattle.lists.specs.Default.{getD-any}
 use Rattle.replay.specs.Numbers.{sourceOf}

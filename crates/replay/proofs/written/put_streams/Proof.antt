@@ -1,9 +1,8 @@
 -- `put_streams` meets its contract: piece by piece.
 use Prim.Native.Nat.{_-_}
-use mathlib.Core.Path.{refl, ap, _∙_}
+use mathlib.Core.Path.{ap, _∙_}
 use lib.ListN.{getD}
 use mathlib.Core.Bool.{false}
-use Rattle.timing.specs.declared.SprinkleStream.{SprinkleStream}
 use Rattle.timing.specs.Streams.{newOf}
 use Rattle.lists.specs.Default.{getD-any}
 use Rattle.replay.specs.Numbers.{streamOf}
