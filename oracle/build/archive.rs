@@ -8,7 +8,7 @@ use std::{env, fs};
 const FOUND: [(&str, &str, &str, &str); 7] = [
     ("libprobe.a", "rk_probe_floor32", "probe", "probed"),
     ("libreplay.a", "rk_probe_listing", "replay", "listed"),
-    ("libreplay.a", "rk_probe_state", "replay", "stated"),
+    ("libreplay.a", "rk_probe_states", "replay", "stated"),
     (
         "libreplay.a",
         "rk_probe_listing_from",
@@ -17,7 +17,7 @@ const FOUND: [(&str, &str, &str, &str); 7] = [
     ),
     (
         "libreplay.a",
-        "rk_probe_state_from",
+        "rk_probe_states_from",
         "replay",
         "late_stated",
     ),

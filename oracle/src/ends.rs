@@ -1,12 +1,10 @@
 //! Where the fields of a script end, and what a run up to there costs.
-use crate::draws::Draws;
 use crate::field::read;
 use crate::original::Engine;
 use crate::runner::run;
 
 #[derive(Clone, Copy)]
 pub struct End {
-    pub field: usize,
     /// The bytes up to the end of the field, which are a script themselves.
     pub bytes: usize,
     /// Samples and fields so far: the port takes about as long for the one as for the other.
@@ -31,7 +29,6 @@ pub fn ends(start: u64, script: &[u8]) -> Vec<End> {
         };
         rest = next;
         End {
-            field: at + 1,
             bytes: script.len() - next.len(),
             steps,
         }
@@ -42,24 +39,4 @@ pub fn ends(start: u64, script: &[u8]) -> Vec<End> {
 /// The ends that a run of at most `limit` steps comes to.
 pub fn up_to(limit: u64, ends: &[End]) -> &[End] {
     &ends[..ends.partition_point(|end| end.steps <= limit)]
-}
-
-/// All of them, where runs up to each take at most `limit` steps together; else as many by lot as
-/// do, and the last one always.
-pub fn within(limit: u64, ends: &[End], d: &mut Draws) -> Vec<End> {
-    let Some((last, others)) = ends.split_last() else {
-        return Vec::new();
-    };
-    let mut left = limit.saturating_sub(last.steps);
-    let mut others = others.to_vec();
-    let mut chosen = vec![*last];
-    while !others.is_empty() {
-        let end = others.swap_remove(d.below(others.len() as u64) as usize);
-        if end.steps <= left {
-            left -= end.steps;
-            chosen.push(end);
-        }
-    }
-    chosen.sort_by_key(|end| end.field);
-    chosen
 }

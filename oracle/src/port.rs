@@ -12,7 +12,7 @@ extern "C" {
 
 #[cfg(stated)]
 extern "C" {
-    fn rk_probe_state(script: *const u8, length: usize, out: *mut u8, room: usize) -> usize;
+    fn rk_probe_states(script: *const u8, length: usize, out: *mut u8, room: usize) -> usize;
 }
 
 #[cfg(late_listed)]
@@ -28,7 +28,7 @@ extern "C" {
 
 #[cfg(late_stated)]
 extern "C" {
-    fn rk_probe_state_from(
+    fn rk_probe_states_from(
         start: u64,
         script: *const u8,
         length: usize,
@@ -67,15 +67,15 @@ pub fn listing(_: &[u8], _: &mut [u8]) -> Option<usize> {
     None
 }
 
-/// The state after a script: 8 bytes a value, big-endian, in the order of `oracle state`.
+/// The state after every field: 8 bytes a value, big-endian, in the order of `oracle state`.
 #[cfg(stated)]
-pub fn state(script: &[u8], out: &mut [u8]) -> Option<usize> {
+pub fn states(script: &[u8], out: &mut [u8]) -> Option<usize> {
     let (at, length) = (script.as_ptr(), script.len());
-    Some(unsafe { rk_probe_state(at, length, out.as_mut_ptr(), out.len()) })
+    Some(unsafe { rk_probe_states(at, length, out.as_mut_ptr(), out.len()) })
 }
 
 #[cfg(not(stated))]
-pub fn state(_: &[u8], _: &mut [u8]) -> Option<usize> {
+pub fn states(_: &[u8], _: &mut [u8]) -> Option<usize> {
     None
 }
 
@@ -91,14 +91,14 @@ pub fn listing_from(_: u64, _: &[u8], _: &mut [u8]) -> Option<usize> {
     None
 }
 
-/// The state on an engine that has counted `start` samples and is new otherwise.
+/// The states on an engine that has counted `start` samples and is new otherwise.
 #[cfg(late_stated)]
-pub fn state_from(start: u64, script: &[u8], out: &mut [u8]) -> Option<usize> {
+pub fn states_from(start: u64, script: &[u8], out: &mut [u8]) -> Option<usize> {
     let (at, length) = (script.as_ptr(), script.len());
-    Some(unsafe { rk_probe_state_from(start, at, length, out.as_mut_ptr(), out.len()) })
+    Some(unsafe { rk_probe_states_from(start, at, length, out.as_mut_ptr(), out.len()) })
 }
 
 #[cfg(not(late_stated))]
-pub fn state_from(_: u64, _: &[u8], _: &mut [u8]) -> Option<usize> {
+pub fn states_from(_: u64, _: &[u8], _: &mut [u8]) -> Option<usize> {
     None
 }

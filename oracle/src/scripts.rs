@@ -2,7 +2,7 @@
 use crate::bytes::{last_frame, SIZE};
 use crate::compare::Sum;
 use crate::draws::Draws;
-use crate::ends::{ends, up_to, within, End};
+use crate::ends::{ends, up_to, End};
 use crate::engine::Particles;
 use crate::gen::{script, KINDS};
 use crate::listing::listing;
@@ -46,12 +46,11 @@ impl Part {
     }
 }
 
-/// How many scripts were compared, how many of them with the state after every field, and how many up
-/// to the field at which a run would have more steps than the limit.
+/// How many scripts were compared, and how many up to the field at which a run would have more steps
+/// than the limit.
 #[derive(Default)]
 struct Runs {
     compared: u64,
-    every: u64,
     cut: u64,
 }
 
@@ -60,9 +59,19 @@ struct Started {
     listed: Part,
     stated: Part,
     runs: Runs,
+    /// What is lent for states, kept from script to script.
+    lent: Vec<u8>,
 }
 
 impl Started {
+    fn new(listed: Part, stated: Part) -> Self {
+        Started {
+            listed,
+            stated,
+            runs: Runs::default(),
+            lent: Vec::new(),
+        }
+    }
     /// Compares as much of a script as the limit allows, and answers the ends of its fields.
     fn compare(&mut self, name: &str, start: u64, script: &[u8], limit: u64) -> Ends {
         let all = ends(start, script);
@@ -72,19 +81,11 @@ impl Started {
             Some(end) if cut => &script[..end.bytes],
             _ => script,
         };
-        let mut d = Draws::new(start ^ script.len() as u64, "ends");
-        let chosen = within(limit, ends, &mut d);
         self.runs.compared += 1;
-        self.runs.every += u64::from(!cut && chosen.len() == ends.len());
         self.runs.cut += u64::from(cut);
         self.listed.add(name, listing_same(start, script));
-        for (end, want) in chosen.iter().zip(states(start, script, &chosen)) {
-            let name = format!("{name}, first {} bytes", end.bytes);
-            let same = state_same(start, &script[..end.bytes], Some(&want));
-            self.stated.add(&name, same);
-        }
-        if run::<Engine>(start, script, |_, _, _| {}).is_err() {
-            self.stated.add(name, state_same(start, script, None));
+        for (n, same) in states_same(start, script, &mut self.lent) {
+            self.stated.add(&format!("{name}, field {n}"), Some(same));
         }
         Ends {
             whole: script.len(),
@@ -102,16 +103,14 @@ struct Ends {
 /// Compares `count` scripts, each as far as a run has at most `limit` steps.
 pub fn compare<W: Write>(count: u64, limit: u64, sum: &mut Sum<W>) -> io::Result<()> {
     let mut entry = Part::new("the script entry rk_script", port::ENTRY);
-    let mut new = Started {
-        listed: Part::new("the listing rk_probe_listing", port::LISTED),
-        stated: Part::new("the state rk_probe_state", port::STATED),
-        runs: Runs::default(),
-    };
-    let mut late = Started {
-        listed: Part::new("the listing rk_probe_listing_from", port::LATE_LISTED),
-        stated: Part::new("the state rk_probe_state_from", port::LATE_STATED),
-        runs: Runs::default(),
-    };
+    let mut new = Started::new(
+        Part::new("the listing rk_probe_listing", port::LISTED),
+        Part::new("the states rk_probe_states", port::STATED),
+    );
+    let mut late = Started::new(
+        Part::new("the listing rk_probe_listing_from", port::LATE_LISTED),
+        Part::new("the states rk_probe_states_from", port::LATE_STATED),
+    );
     let mut same_plain = 0;
     for n in 0..count {
         let kind = &KINDS[(n % KINDS.len() as u64) as usize];
@@ -137,13 +136,9 @@ pub fn compare<W: Write>(count: u64, limit: u64, sum: &mut Sum<W>) -> io::Result
         late.compare(&name, start, &bytes, limit);
     }
     for (what, runs) in [("new engines", &new.runs), ("late starts", &late.runs)] {
-        let Runs {
-            compared,
-            every,
-            cut,
-        } = runs;
+        let Runs { compared, cut } = runs;
         sum.line(&format!(
-            "on {what} {compared} scripts: {every} with the state after every field, {cut} cut \
+            "on {what} {compared} scripts with the state after every field, {cut} of them cut \
              where a run would have more than {limit} samples and fields"
         ))?;
     }
@@ -207,28 +202,47 @@ fn listing_same(start: u64, script: &[u8]) -> Option<bool> {
     )
 }
 
-/// The state after a script, or nothing where it goes bad.
-fn state_same(start: u64, script: &[u8], want: Option<&[u8]>) -> Option<bool> {
-    filled(STATE_SIZE, script, want, |out| match start {
-        0 => port::state(script, out),
-        _ => port::state_from(start, script, out),
-    })
-}
-
-/// The values of the original's state, as the port hands them over.
+/// The bytes of a state: the values of the original's, as the port hands them over.
 const STATE_SIZE: usize = 8 * 1_772;
 
-/// The original's state after each of these fields.
-fn states(start: u64, script: &[u8], ends: &[End]) -> Vec<Vec<u8>> {
-    let mut fields = ends.iter().map(|end| end.field).peekable();
-    let mut states = Vec::new();
-    let _ = run(start, script, |field, _, engine: &Engine| {
-        if fields.next_if_eq(&field).is_some() {
-            let mut bytes = Vec::new();
-            let mut see = |_, _, _, value: Value| bytes.extend(value.code().to_be_bytes());
+/// What the port wants lent for the states of a script: a field takes three bytes or more.
+fn room_for_states(script: &[u8]) -> usize {
+    match script.len() {
+        0..=SCRIPT_LIMIT => 4_726 * script.len(),
+        _ => STATE_SIZE,
+    }
+}
+
+/// For the number of every field, whether the state after it is the same; and for 0, whether the count
+/// of bytes is and the port left the others as they were.
+fn states_same(start: u64, script: &[u8], lent: &mut Vec<u8>) -> Vec<(usize, bool)> {
+    let short = script.len() % 50 == 7;
+    let room = room_for_states(script) - usize::from(short);
+    lent.clear();
+    lent.resize(room, UNTOUCHED);
+    let count = match start {
+        0 => port::states(script, lent),
+        _ => port::states_from(start, script, lent),
+    };
+    let Some(count) = count else {
+        return Vec::new();
+    };
+    let mut want = Vec::new();
+    if !short {
+        // Whether the script goes bad behind these fields makes no difference.
+        let _ = run(start, script, |_, _, engine: &Engine| {
+            let mut see = |_, _, _, value: Value| want.extend(value.code().to_be_bytes());
             engine.visit(&mut see);
-            states.push(bytes);
-        }
-    });
-    states
+        });
+    }
+    let written = want.len().min(room);
+    let untouched = lent[written..].iter().all(|&byte| byte == UNTOUCHED);
+    let mut same = vec![(0, count == want.len() && untouched)];
+    let fields = want.chunks(STATE_SIZE).zip(lent.chunks(STATE_SIZE));
+    same.extend(
+        fields
+            .enumerate()
+            .map(|(at, (want, got))| (at + 1, want == got)),
+    );
+    same
 }

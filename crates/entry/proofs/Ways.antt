@@ -8,8 +8,8 @@ use Rattle.lists.specs.Pick.{pick}
 use Rattle.refusals.specs.declared.Answer.{Answer}
 use Rattle.refusals.specs.declared.Answer.the-variants.{Refused}
 use Rattle.refusals.specs.declared.Refusal.the-variants.{Lengths}
-use Rattle.listing.specs.declared.Ended.{Ended}
-use Rattle.listing.specs.Ended.{ranOf}
+use Rattle.ending.specs.declared.Ended.{Ended}
+use Rattle.ending.specs.Ended.{ranOf}
 use Rattle.entry.specs.Entry.{bytesOf, ifTaken, entryAnswer, entryBytes}
 
 abbrev frameBytes : Ended → List ℕ

@@ -11,7 +11,7 @@ use Rattle.refusals.specs.declared.Answer.the-variants.{Taken, Refused}
 use Rattle.refusals.specs.declared.Refusal.the-variants.{Lengths}
 use Rattle.windows.specs.declared.Window.{Window}
 use Rattle.windows.specs.Opening.{none}
-use Rattle.listing.specs.Ended.{ranOf}
+use Rattle.ending.specs.Ended.{ranOf}
 
 -- a window is centre, radius, amplitude
 unfoldable pub partOf : Window → ℕ → Float

@@ -3,7 +3,7 @@ ghost use mathlib.Core.Path.{_≡_};
 ghost use Prim.Native.Nat.{_<_};
 ghost use lib.ListN.{length};
 ghost use Rattle.entry.specs.Entry.{partOf, wordOf, digitOf, byteOf, bytesOf, entryAnswer, entryBytes};
-use listing::Ended;
+use ending::Ended;
 use refusals::Answer;
 use refusals::Refusal;
 use windows::Frame;
@@ -75,7 +75,7 @@ pub fn last_frame(script: &[u8], out: &mut [u8]) -> Answer
     if out.len() != FRAME_BYTES {
         return Answer::Refused(Refusal::Lengths);
     }
-    let ended = listing::run_script(script);
+    let ended = ending::run_script(script);
     let answer = ended.answer;
     let frame = ended.frame;
     let ws = frame.windows;

@@ -10,10 +10,10 @@ use Rattle.refusals.specs.Numbers.{numberOf}
 use Rattle.steps.specs.declared.Values.{Values}
 use Rattle.lines.specs.declared.Line.{Line}
 use Rattle.lines.specs.declared.Line.the-variants as L
-use Rattle.lines.specs.Lines.{frameText, fieldText, endText, textOf}
+use Rattle.lines.specs.Lines.{timesText, countsText, marksText, frameText, fieldText, endText, textOf}
 
 frame-size : (n : ℕ) (v : Values) → length (frameText n v) ≤ 204
-unfolding frameText
+unfolding frameText timesText countsText marksText
 frame-size n v =
     simp length-append
     (omega (arith, dec-size n, dec-size (v .sample), dec-size (v .ms), dec-size (v .active), dec-size (v .births), dec-size (v .dropped), hex-size 16 (v .hash), hex-size 8 (v .activity)))

@@ -9,17 +9,17 @@ use Rattle.steps.specs.declared.Values.{Values}
 use Rattle.lines.specs.declared.Line.{Line}
 use Rattle.lines.specs.declared.Line.the-variants as L
 
+unfoldable pub timesText : Values → List ℕ
+timesText v = ascii " sample " ++ dec (v .sample) ++ ascii " ms " ++ dec (v .ms) ++ ascii " active " ++ dec (v .active)
+
+unfoldable pub countsText : Values → List ℕ
+countsText v = ascii " births " ++ dec (v .births) ++ ascii " dropped " ++ dec (v .dropped)
+
+unfoldable pub marksText : Values → List ℕ
+marksText v = ascii " hash " ++ hex 16 (v .hash) ++ ascii " activity " ++ hex 8 (v .activity)
+
 unfoldable pub frameText : ℕ → Values → List ℕ
-frameText n v =
-    ascii "frame " ++ dec n
-    ++ ascii " sample " ++ dec (v .sample)
-    ++ ascii " ms " ++ dec (v .ms)
-    ++ ascii " active " ++ dec (v .active)
-    ++ ascii " births " ++ dec (v .births)
-    ++ ascii " dropped " ++ dec (v .dropped)
-    ++ ascii " hash " ++ hex 16 (v .hash)
-    ++ ascii " activity " ++ hex 8 (v .activity)
-    ++ ascii "\n"
+frameText n v = ascii "frame " ++ dec n ++ timesText v ++ countsText v ++ marksText v ++ ascii "\n"
 
 -- `field N`, a word and the refusal's number
 unfoldable pub fieldText : ℕ → List ℕ → Refusal → List ℕ

@@ -1,5 +1,5 @@
 // What a script prints: a line by its values, and its text into a lent buffer.
-ghost use Rattle.lines.specs.Lines.{frameText, fieldText, endText, textOf};
+ghost use Rattle.lines.specs.Lines.{timesText, countsText, marksText, frameText, fieldText, endText, textOf};
 ghost use Rattle.text.specs.Put.{Put};
 use refusals::Refusal;
 use steps::Values;
@@ -17,25 +17,44 @@ pub enum Line {
     End(u64),
 }
 
+// When the frame was, and how many particles hold a place.
+fn put_times(out: &mut [u8], at: usize, v: Values) -> usize
+    ensures { λ r. ⌜ Put (now (out .entry)) (now (out .exit)) at r (timesText v) ⌝ }
+{
+    let a = put(out, at, b" sample ");
+    let a = put_dec(out, a, v.sample);
+    let a = put(out, a, b" ms ");
+    let a = put_dec(out, a, v.ms);
+    let a = put(out, a, b" active ");
+    put_dec(out, a, v.active)
+}
+
+fn put_counts(out: &mut [u8], at: usize, v: Values) -> usize
+    ensures { λ r. ⌜ Put (now (out .entry)) (now (out .exit)) at r (countsText v) ⌝ }
+{
+    let a = put(out, at, b" births ");
+    let a = put_dec(out, a, v.births);
+    let a = put(out, a, b" dropped ");
+    put_dec(out, a, v.dropped)
+}
+
+fn put_marks(out: &mut [u8], at: usize, v: Values) -> usize
+    ensures { λ r. ⌜ Put (now (out .entry)) (now (out .exit)) at r (marksText v) ⌝ }
+{
+    let a = put(out, at, b" hash ");
+    let a = put_hex64(out, a, v.hash);
+    let a = put(out, a, b" activity ");
+    put_hex32(out, a, v.activity)
+}
+
 fn put_frame(out: &mut [u8], at: usize, n: u64, v: Values) -> usize
     ensures { λ r. ⌜ Put (now (out .entry)) (now (out .exit)) at r (frameText n v) ⌝ }
 {
     let a = put(out, at, b"frame ");
     let a = put_dec(out, a, n);
-    let a = put(out, a, b" sample ");
-    let a = put_dec(out, a, v.sample);
-    let a = put(out, a, b" ms ");
-    let a = put_dec(out, a, v.ms);
-    let a = put(out, a, b" active ");
-    let a = put_dec(out, a, v.active);
-    let a = put(out, a, b" births ");
-    let a = put_dec(out, a, v.births);
-    let a = put(out, a, b" dropped ");
-    let a = put_dec(out, a, v.dropped);
-    let a = put(out, a, b" hash ");
-    let a = put_hex64(out, a, v.hash);
-    let a = put(out, a, b" activity ");
-    let a = put_hex32(out, a, v.activity);
+    let a = put_times(out, a, v);
+    let a = put_counts(out, a, v);
+    let a = put_marks(out, a, v);
     put(out, a, b"\n")
 }
 

@@ -1,49 +1,18 @@
--- Laws of the run: how many bytes a turn takes, and how the text that is left goes on.
-use Prim.Native.Nat.{ℕ, suc, _+_, _-_, _≤_, _<_, zero-le}
+-- Laws of the listing: how the text that is left goes on.
+use Prim.Native.Nat.{ℕ, suc, _+_, _-_, _≤_, _<_}
 use mathlib.Core.Path.{_≡_, sym}
-use mathlib.Core.Bool.{Bool, true, false}
 use mathlib.Core.List.{List, _++_, append-nil}
 use native.Mathlib.Omega.{arith}
-use lib.ListN.{length, drop, length-drop}
+use lib.ListN.{length, drop}
 use lib.Seq.{drop-drop}
-use lib.Dec.{eqb}
 use borrow.Author.Tests.{eq-eqb, ne-eqb}
-use Rattle.refusals.specs.declared.Refusal.{Refusal}
-use Rattle.script.specs.declared.Read.{Read}
-use Rattle.script.specs.declared.Read.the-variants as S
-use Rattle.script.specs.Field.{readOf}
-use Rattle.script.proofs.Taken.{Taken, field, bad, end, taken}
 use Rattle.text.specs.Put.{Put}
 use Rattle.text.proofs.Laws.{seq}
 use Rattle.steps.specs.declared.Run.{Run}
-use Rattle.steps.specs.declared.Reply.{Reply}
-use Rattle.steps.specs.declared.Reply.the-variants as R
-use Rattle.listing.specs.declared.Turn.{Turn}
-use Rattle.steps.specs.Steps.{stepOf}
-use Rattle.listing.specs.Turns.{refusalOf, repliedOf, afterOf, turnOf, turnsFrom}
 use Rattle.lines.specs.Lines.{textOf}
+use Rattle.turns.specs.declared.Turn.{Turn}
+use Rattle.turns.specs.Turns.{turnOf, turnsFrom}
 use Rattle.listing.specs.Printed.{textFrom}
-
-refusal-taken : (b : Bool) (run : Run) (n k : ℕ) (r : Refusal) (m : ℕ) → k ≤ m → refusalOf b run n k r .taken ≤ m
-refusal-taken true run n k r m h = zero-le
-refusal-taken false run n k r m h = h
-
-replied-taken : (n k : ℕ) (run : Run) (a : Reply) (m : ℕ) → k ≤ m → repliedOf n k run a .taken ≤ m
-replied-taken n k run R.Quiet m h = h
-replied-taken n k run (R.Refused r) m h = refusal-taken (eqb n 1) run n k r m h
-replied-taken n k run (R.Framed v) m h = h
-
-after-taken : (run : Run) (n : ℕ) (r : Read) (m : ℕ) → Taken r m → afterOf run n r .taken ≤ m
-after-taken run n (S.Field f k) m (field lo hi) = replied-taken n k (stepOf run f .run) (stepOf run f .reply) m hi
-after-taken run n (S.Bad r) m bad = zero-le
-after-taken run n S.End m end = zero-le
-
-pub turn-taken : (run : Run) (n : ℕ) (s : List ℕ) → turnOf run n s .taken ≤ length s
-unfolding turnOf
-turn-taken run n s = after-taken run n (readOf s (eqb n 1)) (length s) (taken s (eqb n 1))
-
-pub taken-left : (run : Run) (n at : ℕ) (script : List ℕ) (t : Turn) → t ≡ turnOf run n (drop at script) → t .taken ≤ length script - at
-taken-left run n at script t eq = rw eq (rw length-drop at (turn-taken run n (drop at script)))
 
 last : (f : ℕ) (run : Run) (n : ℕ) (s : List ℕ) → turnOf run n s .taken ≡ 0 → textOf (turnOf run n s .line) ≡ textFrom (suc f) run n s
 unfolding turnsFrom

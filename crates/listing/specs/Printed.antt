@@ -9,8 +9,8 @@ use Rattle.steps.specs.declared.Run.{Run}
 use Rattle.lines.specs.declared.Line.{Line}
 use Rattle.lines.specs.declared.Line.the-variants as L
 use Rattle.lines.specs.Lines.{textAll}
-use Rattle.listing.specs.declared.Turn.{Turn}
-use Rattle.listing.specs.Turns.{turnsFrom, turnsOf}
+use Rattle.turns.specs.declared.Turn.{Turn}
+use Rattle.turns.specs.Turns.{turnsFrom, turnsOf}
 
 abbrev pub linesOf : List Turn → List Line
 linesOf ts = map (λ (t : Turn). t .line) ts

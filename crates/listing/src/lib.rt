@@ -1,34 +1,98 @@
 // Runs a script: its fields go to an engine one after the other, and what they print goes into a lent
 // buffer.
+ghost use mathlib.Core.Path.{_≡_};
+ghost use Prim.Native.Nat.{_+_, _-_, _<_, _≤_};
+ghost use lib.ListN.{length, drop};
+ghost use Rattle.text.specs.Put.{Put};
+ghost use Rattle.lines.specs.Lines.{textAll};
+ghost use Rattle.turns.specs.Late.{turnsLate};
+ghost use Rattle.listing.specs.Printed.{linesOf, textFrom};
+ghost use Rattle.listing.specs.Listed.{roomFor, listedOf, leftIn};
+ghost use Rattle.listing.specs.Late.{printedLate, listedLate, leftLate};
 use lines::Line;
-use refusals::Answer;
-use state::Engine;
+use refusals::Refusal;
 use steps::Run;
-use windows::Frame;
-
-mod turns;
-
-pub use turns::list_script;
-pub use turns::list_script_from;
-pub use turns::run_script;
-pub use turns::run_script_from;
-
-// One turn: the run after it, its line, and how many bytes of script it took, 0 to stop.
-pub struct Turn {
-    pub run: Run,
-    pub line: Line,
-    pub taken: usize,
-}
+use turns::counted;
+use turns::one_turn;
 
 pub enum Listed {
     Count(usize),
     NoRoom,
 }
 
-// What a whole script comes to: the refusal that it went bad with, if any, the engine that it leaves,
-// and its last accepted frame.
-pub struct Ended {
-    pub answer: Answer,
-    pub engine: Engine,
-    pub frame: Frame,
+// The lines from field n on, which stands at `at`, behind what `out` has before w.
+fn list_fields(run: Run, n: u64, at: usize, w: usize, script: &[u8], out: &mut [u8]) -> usize
+    requires { ⌜ (at ≤ length (now script)) × (0 < n) × (n ≤ at + 1) ⌝ }
+    ensures { λ r. ⌜ Put (now (out .entry)) (now (out .exit)) w r (textFrom (length (now (script .entry)) + 2 - n) run n (drop at (now (script .entry)))) ⌝ }
+{
+    let mut run = run;
+    let mut n = n;
+    let mut at = at;
+    let mut w = w;
+    loop {
+        let turn = one_turn(run, n, &script[at..]);
+        let line = turn.line;
+        w = lines::put_line(out, w, line);
+        let k = turn.taken;
+        if k == 0 {
+            return w;
+        }
+        let next = turn.run;
+        run = next;
+        at = at + k;
+        n = n + 1;
+    }
+}
+
+// The lines of a script of lawful size.
+fn list_turns(start: u64, script: &[u8], out: &mut [u8]) -> usize
+    ensures { λ r. ⌜ Put (now (out .entry)) (now (out .exit)) 0 r (textAll (linesOf (turnsLate start (now (script .entry))))) ⌝ }
+{
+    let turn = one_turn(steps::fresh(), 1, script);
+    let line = turn.line;
+    let w = lines::put_line(out, 0, line);
+    let k = turn.taken;
+    if k == 0 {
+        return w;
+    }
+    let run = counted(turn.run, start);
+    list_fields(run, 2, k, w, script, out)
+}
+
+fn listing(start: u64, script: &[u8], out: &mut [u8]) -> usize
+    ensures { λ r. ⌜ Put (now (out .entry)) (now (out .exit)) 0 r (printedLate start (now (script .entry))) ⌝ }
+{
+    if script.len() <= 60000 {
+        list_turns(start, script, out)
+    } else {
+        lines::put_line(out, 0, Line::Bad(0, Refusal::Script))
+    }
+}
+
+// Room for the longest listing of a script of n bytes.
+fn room(n: usize) -> usize
+    ensures { λ r. ⌜ r ≡ roomFor n ⌝ }
+{
+    if n <= 60000 { 68 * n + 204 } else { 204 }
+}
+
+// The listing of a script whose engine has counted `start` samples when it is made, for the
+// comparison with the Rust near the limit of samples.
+pub fn list_script_from(start: u64, script: &[u8], out: &mut [u8]) -> Listed
+    ensures { λ r. ⌜ (r ≡ listedLate start (length (now (out .entry))) (now (script .entry))) × (now (out .exit) ≡ leftLate start (now (out .entry)) (now (script .entry))) ⌝ }
+{
+    let needed = room(script.len());
+    if out.len() < needed {
+        return Listed::NoRoom;
+    }
+    let n = listing(start, script, out);
+    Listed::Count(n)
+}
+
+// What the script prints, at the start of `out`, and the count of its bytes. `out` has room for the
+// longest listing of so many bytes of script, or is left as it is.
+pub fn list_script(script: &[u8], out: &mut [u8]) -> Listed
+    ensures { λ r. ⌜ (r ≡ listedOf (length (now (out .entry))) (now (script .entry))) × (now (out .exit) ≡ leftIn (now (out .entry)) (now (script .entry))) ⌝ }
+{
+    list_script_from(0, script, out)
 }

@@ -37,8 +37,8 @@ use Rattle.script.specs.declared.Read.the-variants as R
 use Rattle.script.specs.Bytes.{be16}
 use Rattle.script.specs.Table.{kindOf, lengthOf, lawful}
 use Rattle.script.specs.Field.{misplaced, unknown, bodyOf, readOf}
-use Rattle.listing.specs.declared.Ended.{Ended}
-use Rattle.listing.specs.Ended.{ranOf}
+use Rattle.ending.specs.declared.Ended.{Ended}
+use Rattle.ending.specs.Ended.{ranOf}
 use Rattle.entry.specs.Entry.{entryAnswer, ifTaken, entryBytes}
 use Rattle.promises.specs.Demand1.{Row, firstOf, NoneHolds, Given, badSlot, readNumber, Kept, Demand1}
 

@@ -32,7 +32,7 @@ use Rattle.script.specs.declared.Read.the-variants as R
 use Rattle.script.specs.Bytes.{be16}
 use Rattle.script.specs.Table.{kindOf, lengthOf, lawful}
 use Rattle.script.specs.Field.{misplaced, unknown, readOf}
-use Rattle.listing.specs.Ended.{badOf, lastTurn}
+use Rattle.ending.specs.Ended.{badOf, lastTurn}
 use Rattle.entry.specs.Entry.{entryAnswer, entryBytes}
 
 -- a test, and the number that is given where it is the first to hold

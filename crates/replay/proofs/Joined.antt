@@ -11,7 +11,7 @@ use Rattle.text.proofs.Laws.{seq}
 use Rattle.replay.specs.State.{joined}
 
 -- no bytes at a place
-nothing : (o : List ℕ) (w : ℕ) → Put o o w w []
+pub nothing : (o : List ℕ) (w : ℕ) → Put o o w w []
 nothing o w =
     record {
       same = refl;

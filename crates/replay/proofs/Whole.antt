@@ -1,21 +1,13 @@
--- The state has 14,176 bytes, and the ways out of handing it over.
-use Prim.Native.Nat.{ℕ, zero, suc, _*_, _≤_, _<_}
+-- The state has 14,176 bytes.
+use Prim.Native.Nat.{ℕ, zero, suc, _*_}
 use mathlib.Core.Path.{_≡_, refl, sym, _∙_}
 use mathlib.Core.List.{List}
 use native.Mathlib.Nat.{zero-mul, suc-mul, add-comm}
-use native.Mathlib.Omega.{arith}
 use lib.ListN.{length, length-append}
 use lib.Ieee.{Float}
-use borrow.Author.Tests.{lt-ltb, le-ltb}
-use Rattle.lists.specs.Pick.{pick}
 use Rattle.text.specs.Put.{Put}
-use Rattle.refusals.specs.declared.Answer.the-variants.{Taken, Refused}
-use Rattle.refusals.specs.declared.Refusal.{Refusal}
 use Rattle.state.specs.declared.Engine.{Engine}
-use Rattle.listing.specs.declared.Ended.{Ended}
-use Rattle.listing.specs.Late.{ranLate}
 use Rattle.replay.specs.State.{joined, wordBytes, wordsBytes, harmonicsBytes, streamsBytes, sourcesBytes, particlesBytes, stateBytes}
-use Rattle.replay.specs.Replay.{stateCount, stateLeft}
 
 -- pieces of one length
 joined-length : (g : ℕ → List ℕ) (k : ℕ) → ((i : ℕ) → length (g i) ≡ k) → (i n : ℕ) → length (joined g i n) ≡ n * k
@@ -56,21 +48,3 @@ module _ (e : Engine) where
 -- numbers that are known by an equation
 pub words-are : {o p : List ℕ} {at r : ℕ} {x y : List ℕ} → x ≡ y → Put o p at r (wordsBytes x) → Put o p at r (wordsBytes y)
 words-are e put = rw e at put
-
-module _ (start : ℕ) (s o : List ℕ) where
-  pub short : length o < 14176 → (0 ≡ stateCount start s o) × (o ≡ stateLeft start s o)
-  unfolding stateCount stateLeft pick
-  short h = (rw (lt-ltb _ _ h), rw (lt-ltb _ _ h))
-
-  module _ (e : Ended) (room : 14176 ≤ length o) (q : e ≡ ranLate start s) where
-    pub shown : {p : List ℕ} {r : ℕ} → e .answer ≡ Taken → Put o p 0 r (stateBytes (e .engine)) → (r ≡ stateCount start s o) × (p ≡ stateLeft start s o)
-    unfolding stateCount stateLeft pick
-    shown {p} {r} t put =
-        let n = state-length (e .engine) in
-        let f = put .fits (omega (arith, n)) in
-        let c : r ≡ 14176 = omega (arith, f .0, n) in
-        (rw (le-ltb _ _ room, ← q, t) c, rw (le-ltb _ _ room, ← q, t) (f .1))
-
-    pub bad : (k : Refusal) → e .answer ≡ Refused k → (0 ≡ stateCount start s o) × (o ≡ stateLeft start s o)
-    unfolding stateCount stateLeft pick
-    bad k t = (rw (le-ltb _ _ room, ← q, t), rw (le-ltb _ _ room, ← q, t))

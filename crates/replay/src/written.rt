@@ -86,9 +86,9 @@ fn put_particles(out: &mut [u8], at: usize, particles: [Particle; 64]) -> usize
     at
 }
 
-// In the order of `oracle state`.
-pub fn put_engine(out: &mut [u8], engine: Engine) -> usize
-    ensures { λ r. ⌜ Put (now (out .entry)) (now (out .exit)) 0 r (stateBytes engine) ⌝ }
+// 1,772 numbers, in the order of `oracle state`.
+pub fn put_engine(out: &mut [u8], at: usize, engine: Engine) -> usize
+    ensures { λ r. ⌜ Put (now (out .entry)) (now (out .exit)) at r (stateBytes engine) ⌝ }
 {
     let config = engine.config;
     let prepared = engine.prepared;
@@ -97,7 +97,7 @@ pub fn put_engine(out: &mut [u8], engine: Engine) -> usize
     let sources = engine.sources;
     let particles = engine.particles;
     let counted = crate::numbers::counts(engine);
-    let a = put_words(out, 0, &counted);
+    let a = put_words(out, at, &counted);
     let chosen = crate::numbers::config(config);
     let a = put_words(out, a, &chosen);
     let rates = crate::numbers::prepared(prepared);

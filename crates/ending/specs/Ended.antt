@@ -1,0 +1,47 @@
+-- What a whole script comes to. Definitions only.
+use Prim.Native.Nat.{ℕ}
+use mathlib.Core.Bool.{cond}
+use mathlib.Core.List.{List, [], _∷_}
+use lib.ListN.{length}
+use lib.Dec.{leb}
+use Rattle.refusals.specs.declared.Answer.{Answer}
+use Rattle.refusals.specs.declared.Answer.the-variants.{Taken, Refused}
+use Rattle.refusals.specs.declared.Refusal.the-variants.{Script}
+use Rattle.steps.specs.declared.Run.{Run}
+use Rattle.steps.specs.Steps.{fresh}
+use Rattle.lines.specs.declared.Line.{Line}
+use Rattle.lines.specs.declared.Line.the-variants as L
+use Rattle.turns.specs.declared.Turn.{Turn}
+use Rattle.ending.specs.declared.Ended.{Ended}
+use Rattle.turns.specs.Turns.{turnOf, turnsFrom, turnsOf}
+
+-- the last of the turns, t where there is none
+unfoldable pub lastOf : Turn → List Turn → Turn
+lastOf t [] = t
+lastOf t (u ∷ us) = lastOf u us
+
+-- the last of the turns from field n on
+abbrev pub lastFrom : ℕ → Run → ℕ → List ℕ → Turn
+lastFrom f run n s = lastOf (turnOf run n s) (turnsFrom f run n s)
+
+-- a script has one turn at least
+unfoldable pub lastTurn : List ℕ → Turn
+lastTurn s = lastOf (turnOf fresh 1 s) (turnsOf s)
+
+-- 8 to 11, or 1 in field 1
+abbrev pub badOf : Line → Answer
+badOf L.Nothing = Taken
+badOf (L.Frame n v) = Taken
+badOf (L.Refused n r) = Taken
+badOf (L.Bad n r) = Refused r
+badOf (L.End n) = Taken
+
+abbrev pub ranTo : Run → Answer → Ended
+ranTo run a = record { answer = a; frame = run .frame }
+
+abbrev pub endedOf : Turn → Ended
+endedOf t = ranTo (t .run) (badOf (t .line))
+
+-- a script that is too long is not run
+unfoldable pub ranOf : List ℕ → Ended
+ranOf s = cond (leb (length s) 60000) (endedOf (lastTurn s)) (ranTo fresh (Refused Script))
