@@ -5,25 +5,26 @@ use native.Mathlib.Omega.{arith}
 use lib.ListN.{length, length-append}
 use Rattle.text.proofs.Sizes.{dec-size, hex-size}
 use Rattle.text.specs.Ascii.{ascii}
+use Rattle.text.specs.Put.{joined}
 use Rattle.refusals.specs.declared.Refusal.{Refusal}
 use Rattle.refusals.specs.Numbers.{numberOf}
 use Rattle.steps.specs.declared.Values.{Values}
 use Rattle.lines.specs.declared.Line.{Line}
 use Rattle.lines.specs.declared.Line.the-variants as L
-use Rattle.lines.specs.Lines.{timesText, countsText, marksText, frameText, fieldText, endText, textOf}
+use Rattle.lines.specs.Lines.{timesPieces, countsPieces, marksPieces, framePieces, fieldPieces, endPieces, textOf}
 
-frame-size : (n : ℕ) (v : Values) → length (frameText n v) ≤ 204
-unfolding frameText timesText countsText marksText
+frame-size : (n : ℕ) (v : Values) → length (joined (framePieces n v)) ≤ 204
+unfolding framePieces timesPieces countsPieces marksPieces
 frame-size n v =
     simp length-append
     (omega (arith, dec-size n, dec-size (v .sample), dec-size (v .ms), dec-size (v .active), dec-size (v .births), dec-size (v .dropped), hex-size 16 (v .hash), hex-size 8 (v .activity)))
 
-field-size : (n : ℕ) (w : List ℕ) (r : Refusal) → length w ≤ 9 → length (fieldText n w r) ≤ 204
-unfolding fieldText
+field-size : (n : ℕ) (w : List ℕ) (r : Refusal) → length w ≤ 9 → length (joined (fieldPieces n w r)) ≤ 204
+unfolding fieldPieces
 field-size n w r h = simp length-append (omega (arith, dec-size n, dec-size (numberOf r)))
 
-end-size : (n : ℕ) → length (endText n) ≤ 204
-unfolding endText
+end-size : (n : ℕ) → length (joined (endPieces n)) ≤ 204
+unfolding endPieces
 end-size n = simp length-append (omega (arith, dec-size n))
 
 pub line-size : (l : Line) → length (textOf l) ≤ 204

@@ -1,39 +1,43 @@
--- The text of the lines that a script prints. Definitions only.
+-- The lines that a script prints, as pieces in a row. Definitions only.
 use Prim.Native.Nat.{ℕ}
 use mathlib.Core.List.{List, [], _∷_, _++_}
 use Rattle.text.specs.Ascii.{ascii}
 use Rattle.text.specs.Number.{dec, hex}
+use Rattle.text.specs.Put.{joined}
 use Rattle.refusals.specs.declared.Refusal.{Refusal}
 use Rattle.refusals.specs.Numbers.{numberOf}
 use Rattle.steps.specs.declared.Values.{Values}
 use Rattle.lines.specs.declared.Line.{Line}
 use Rattle.lines.specs.declared.Line.the-variants as L
 
-unfoldable pub timesText : Values → List ℕ
-timesText v = ascii " sample " ++ dec (v .sample) ++ ascii " ms " ++ dec (v .ms) ++ ascii " active " ++ dec (v .active)
+unfoldable pub timesPieces : Values → List (List ℕ)
+timesPieces v = ascii " sample " ∷ dec (v .sample) ∷ ascii " ms " ∷ dec (v .ms) ∷ ascii " active " ∷ dec (v .active) ∷ []
 
-unfoldable pub countsText : Values → List ℕ
-countsText v = ascii " births " ++ dec (v .births) ++ ascii " dropped " ++ dec (v .dropped)
+unfoldable pub countsPieces : Values → List (List ℕ)
+countsPieces v = ascii " births " ∷ dec (v .births) ∷ ascii " dropped " ∷ dec (v .dropped) ∷ []
 
-unfoldable pub marksText : Values → List ℕ
-marksText v = ascii " hash " ++ hex 16 (v .hash) ++ ascii " activity " ++ hex 8 (v .activity)
+unfoldable pub marksPieces : Values → List (List ℕ)
+marksPieces v = ascii " hash " ∷ hex 16 (v .hash) ∷ ascii " activity " ∷ hex 8 (v .activity) ∷ []
 
-unfoldable pub frameText : ℕ → Values → List ℕ
-frameText n v = ascii "frame " ++ dec n ++ timesText v ++ countsText v ++ marksText v ++ ascii "\n"
+unfoldable pub framePieces : ℕ → Values → List (List ℕ)
+framePieces n v = (ascii "frame " ∷ dec n ∷ []) ++ timesPieces v ++ countsPieces v ++ marksPieces v ++ (ascii "\n" ∷ [])
 
 -- `field N`, a word and the refusal's number
-unfoldable pub fieldText : ℕ → List ℕ → Refusal → List ℕ
-fieldText n word r = ascii "field " ++ dec n ++ word ++ dec (numberOf r) ++ ascii "\n"
+unfoldable pub fieldPieces : ℕ → List ℕ → Refusal → List (List ℕ)
+fieldPieces n word r = ascii "field " ∷ dec n ∷ word ∷ dec (numberOf r) ∷ ascii "\n" ∷ []
 
-unfoldable pub endText : ℕ → List ℕ
-endText n = ascii "end " ++ dec n ++ ascii "\n"
+unfoldable pub endPieces : ℕ → List (List ℕ)
+endPieces n = ascii "end " ∷ dec n ∷ ascii "\n" ∷ []
+
+abbrev pub piecesOf : Line → List (List ℕ)
+piecesOf L.Nothing = []
+piecesOf (L.Frame n v) = framePieces n v
+piecesOf (L.Refused n r) = fieldPieces n (ascii " refused ") r
+piecesOf (L.Bad n r) = fieldPieces n (ascii " bad ") r
+piecesOf (L.End n) = endPieces n
 
 abbrev pub textOf : Line → List ℕ
-textOf L.Nothing = []
-textOf (L.Frame n v) = frameText n v
-textOf (L.Refused n r) = fieldText n (ascii " refused ") r
-textOf (L.Bad n r) = fieldText n (ascii " bad ") r
-textOf (L.End n) = endText n
+textOf l = joined (piecesOf l)
 
 abbrev pub textAll : List Line → List ℕ
 textAll [] = []

@@ -1,6 +1,7 @@
 // What a script prints: a line by its values, and its text into a lent buffer.
-ghost use Rattle.lines.specs.Lines.{timesText, countsText, marksText, frameText, fieldText, endText, textOf};
-ghost use Rattle.text.specs.Put.{Put};
+ghost use mathlib.Core.Path.{_≡_};
+ghost use Rattle.text.specs.Put.{placeAfter, bufferAfter};
+ghost use Rattle.lines.specs.Lines.{timesPieces, countsPieces, marksPieces, framePieces, fieldPieces, endPieces, piecesOf};
 use refusals::Refusal;
 use steps::Values;
 use text::put;
@@ -19,7 +20,7 @@ pub enum Line {
 
 // When the frame was, and how many particles hold a place.
 fn put_times(out: &mut [u8], at: usize, v: Values) -> usize
-    ensures { λ r. ⌜ Put (now (out .entry)) (now (out .exit)) at r (timesText v) ⌝ }
+    ensures { λ r. ⌜ (r ≡ placeAfter (now (out .entry)) at (timesPieces v)) × (now (out .exit) ≡ bufferAfter (now (out .entry)) at (timesPieces v)) ⌝ }
 {
     let a = put(out, at, b" sample ");
     let a = put_dec(out, a, v.sample);
@@ -30,7 +31,7 @@ fn put_times(out: &mut [u8], at: usize, v: Values) -> usize
 }
 
 fn put_counts(out: &mut [u8], at: usize, v: Values) -> usize
-    ensures { λ r. ⌜ Put (now (out .entry)) (now (out .exit)) at r (countsText v) ⌝ }
+    ensures { λ r. ⌜ (r ≡ placeAfter (now (out .entry)) at (countsPieces v)) × (now (out .exit) ≡ bufferAfter (now (out .entry)) at (countsPieces v)) ⌝ }
 {
     let a = put(out, at, b" births ");
     let a = put_dec(out, a, v.births);
@@ -39,7 +40,7 @@ fn put_counts(out: &mut [u8], at: usize, v: Values) -> usize
 }
 
 fn put_marks(out: &mut [u8], at: usize, v: Values) -> usize
-    ensures { λ r. ⌜ Put (now (out .entry)) (now (out .exit)) at r (marksText v) ⌝ }
+    ensures { λ r. ⌜ (r ≡ placeAfter (now (out .entry)) at (marksPieces v)) × (now (out .exit) ≡ bufferAfter (now (out .entry)) at (marksPieces v)) ⌝ }
 {
     let a = put(out, at, b" hash ");
     let a = put_hex64(out, a, v.hash);
@@ -48,7 +49,7 @@ fn put_marks(out: &mut [u8], at: usize, v: Values) -> usize
 }
 
 fn put_frame(out: &mut [u8], at: usize, n: u64, v: Values) -> usize
-    ensures { λ r. ⌜ Put (now (out .entry)) (now (out .exit)) at r (frameText n v) ⌝ }
+    ensures { λ r. ⌜ (r ≡ placeAfter (now (out .entry)) at (framePieces n v)) × (now (out .exit) ≡ bufferAfter (now (out .entry)) at (framePieces n v)) ⌝ }
 {
     let a = put(out, at, b"frame ");
     let a = put_dec(out, a, n);
@@ -60,7 +61,7 @@ fn put_frame(out: &mut [u8], at: usize, n: u64, v: Values) -> usize
 
 // `field N`, a word and a refusal's number.
 fn put_field(out: &mut [u8], at: usize, n: u64, word: &[u8], refusal: Refusal) -> usize
-    ensures { λ r. ⌜ Put (now (out .entry)) (now (out .exit)) at r (fieldText n (now (word .entry)) refusal) ⌝ }
+    ensures { λ r. ⌜ (r ≡ placeAfter (now (out .entry)) at (fieldPieces n (now (word .entry)) refusal)) × (now (out .exit) ≡ bufferAfter (now (out .entry)) at (fieldPieces n (now (word .entry)) refusal)) ⌝ }
 {
     let a = put(out, at, b"field ");
     let a = put_dec(out, a, n);
@@ -70,7 +71,7 @@ fn put_field(out: &mut [u8], at: usize, n: u64, word: &[u8], refusal: Refusal) -
 }
 
 fn put_end(out: &mut [u8], at: usize, n: u64) -> usize
-    ensures { λ r. ⌜ Put (now (out .entry)) (now (out .exit)) at r (endText n) ⌝ }
+    ensures { λ r. ⌜ (r ≡ placeAfter (now (out .entry)) at (endPieces n)) × (now (out .exit) ≡ bufferAfter (now (out .entry)) at (endPieces n)) ⌝ }
 {
     let a = put(out, at, b"end ");
     let a = put_dec(out, a, n);
@@ -78,10 +79,10 @@ fn put_end(out: &mut [u8], at: usize, n: u64) -> usize
 }
 
 pub fn put_line(out: &mut [u8], at: usize, line: Line) -> usize
-    ensures { λ r. ⌜ Put (now (out .entry)) (now (out .exit)) at r (textOf line) ⌝ }
+    ensures { λ r. ⌜ (r ≡ placeAfter (now (out .entry)) at (piecesOf line)) × (now (out .exit) ≡ bufferAfter (now (out .entry)) at (piecesOf line)) ⌝ }
 {
     match line {
-        Line::Nothing => put(out, at, b""),
+        Line::Nothing => at,
         Line::Frame(n, v) => put_frame(out, at, n, v),
         Line::Refused(n, refusal) => put_field(out, at, n, b" refused ", refusal),
         Line::Bad(n, refusal) => put_field(out, at, n, b" bad ", refusal),

@@ -1,23 +1,13 @@
 -- A loop that puts one piece after the other: whatever writes the pieces that are left completes the whole.
 use Prim.Native.Nat.{ℕ, suc, _+_, _-_, _≤_, _<_}
-use mathlib.Core.Path.{_≡_, refl, sym, ap, _∙_}
-use mathlib.Core.List.{List, [], _++_, append-nil}
-use native.Mathlib.Nat.{add-zero}
+use mathlib.Core.Path.{_≡_, refl, _∙_}
+use mathlib.Core.List.{List}
 use native.Mathlib.Numerals.{add-one}
 use native.Mathlib.Omega.{arith}
-use lib.ListN.{length, take, drop, take-append-drop}
+use lib.ListN.{length}
 use Rattle.text.specs.Put.{Put}
-use Rattle.text.proofs.Laws.{seq}
+use Rattle.text.proofs.Laws.{nothing, seq}
 use Rattle.replay.specs.State.{joined}
-
--- no bytes at a place
-pub nothing : (o : List ℕ) (w : ℕ) → Put o o w w []
-nothing o w =
-    record {
-      same = refl;
-      fits = λ h. (sym (add-zero w), sym (ap (λ (k : ℕ). take w o ++ [] ++ drop k o) (add-zero w) ∙ ap (λ (r : List ℕ). r ++ drop w o) (append-nil (take w o)) ∙ take-append-drop w o));
-      full = λ h. omega arith;
-    }
 
 -- n pieces in all, i of them written into `out`, up to w
 pub record Pieces (g : ℕ → List ℕ) (n : ℕ) (o₀ : List ℕ) (w₀ : ℕ) (out : List ℕ) (i w : ℕ) : Type 0 where

@@ -10,7 +10,7 @@ use lib.Seq.{drop-drop}
 use borrow.Author.Tests.{eq-eqb, ne-eqb, eqb-false, le-leb, lt-leb}
 use Rattle.lists.specs.Pick.{pick, by-case}
 use Rattle.text.specs.Put.{Put}
-use Rattle.text.proofs.Laws.{seq}
+use Rattle.text.proofs.Laws.{nothing, seq}
 use Rattle.steps.specs.declared.Run.{Run}
 use Rattle.steps.specs.Steps.{fresh}
 use Rattle.turns.specs.declared.Turn.{Turn}
@@ -18,7 +18,6 @@ use Rattle.turns.specs.Turns.{turnOf}
 use Rattle.turns.proofs.Laws.{turn-taken, turn-three}
 use Rattle.replay.specs.State.{stateBytes}
 use Rattle.replay.specs.Replay.{afterOf, statesFrom, statesOf, statesCount, statesLeft}
-use Rattle.replay.proofs.Joined.{nothing}
 use Rattle.replay.proofs.Whole.{state-length}
 
 module _ (start f : ℕ) (run : Run) (n : ℕ) (s : List ℕ) where

@@ -1,6 +1,6 @@
 -- `put_counts` meets its contract: the pieces in a row.
-use Rattle.text.proofs.Laws.{piece, seq}
-use Rattle.lines.specs.Lines.{countsText}
+use Rattle.text.proofs.Laws.{one, next}
+use Rattle.lines.specs.Lines.{countsPieces}
 use borrow.Author.Needs.{needs}
 use Rattle.lines.proofs.put_counts.Statement.{statement}
 use Rattle.lines.proofs.put_counts.Tie as tie
@@ -27,8 +27,10 @@ same-length : tie.Need-same-length
 same-length c = search needs
 
 returns : tie.Need-returns
-unfolding countsText
-returns c = seq (seq (seq (piece (c .before .before .before .before .before .before .before .before .before .before .before .before .before .before .before .put .ensures)) (piece (c .before .before .before .before .before .before .before .before .before .before .before .put-dec .ensures))) (piece (c .before .before .before .before .before .before .put2 .ensures))) (piece (c .before .before .put-dec2 .ensures))
+unfolding countsPieces
+returns c =
+    let all = next (next (next (one (c .before .before .before .before .before .before .before .before .before .before .before .before .before .before .before .put .ensures)) (one (c .before .before .before .before .before .before .before .before .before .before .before .put-dec .ensures))) (one (c .before .before .before .before .before .before .put2 .ensures))) (one (c .before .before .put-dec2 .ensures)) in
+    (all .place, all .buffer)
 
 pub put-counts-spec : {M : Type 1} → statement M
 put-counts-spec =

@@ -1,6 +1,6 @@
 -- `put_end` meets its contract: the pieces in a row.
-use Rattle.text.proofs.Laws.{piece, seq}
-use Rattle.lines.specs.Lines.{endText}
+use Rattle.text.proofs.Laws.{one, next}
+use Rattle.lines.specs.Lines.{endPieces}
 use borrow.Author.Needs.{needs}
 use Rattle.lines.proofs.put_end.Statement.{statement}
 use Rattle.lines.proofs.put_end.Tie as tie
@@ -24,8 +24,10 @@ same-length : tie.Need-same-length
 same-length c = search needs
 
 returns : tie.Need-returns
-unfolding endText
-returns c = seq (seq (piece (c .before .before .before .before .before .before .before .before .before .before .before .put .ensures)) (piece (c .before .before .before .before .before .before .before .put-dec .ensures))) (piece (c .before .before .put2 .ensures))
+unfolding endPieces
+returns c =
+    let all = next (next (one (c .before .before .before .before .before .before .before .before .before .before .before .put .ensures)) (one (c .before .before .before .before .before .before .before .put-dec .ensures))) (one (c .before .before .put2 .ensures)) in
+    (all .place, all .buffer)
 
 pub put-end-spec : {M : Type 1} → statement M
 put-end-spec =

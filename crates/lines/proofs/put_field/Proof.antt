@@ -1,6 +1,6 @@
 -- `put_field` meets its contract: the pieces in a row.
-use Rattle.text.proofs.Laws.{piece, seq}
-use Rattle.lines.specs.Lines.{fieldText}
+use Rattle.text.proofs.Laws.{one, next}
+use Rattle.lines.specs.Lines.{fieldPieces}
 use borrow.Author.Needs.{needs}
 use Rattle.lines.proofs.put_field.Statement.{statement}
 use Rattle.lines.proofs.put_field.Tie as tie
@@ -33,11 +33,12 @@ same-length : tie.Need-same-length
 same-length c = search needs
 
 returns : tie.Need-returns
-unfolding fieldText
+unfolding fieldPieces
 returns c =
-    let word = seq (seq (piece (c .before .before .before .before .before .before .before .before .before .before .before .before .before .before .before .before .before .before .before .before .put .ensures)) (piece (c .before .before .before .before .before .before .before .before .before .before .before .before .before .before .before .before .put-dec .ensures))) (piece (c .before .before .before .before .before .before .before .before .before .before .before .before .put2 .ensures)) in
-    let number = piece (rw (c .before .before .before .before .before .before .before .before .number .ensures) at (c .before .before .before .before .before .before .before .put-dec2 .ensures)) in
-    seq (seq word number) (piece (c .before .before .put3 .ensures))
+    let word = next (next (one (c .before .before .before .before .before .before .before .before .before .before .before .before .before .before .before .before .before .before .before .before .put .ensures)) (one (c .before .before .before .before .before .before .before .before .before .before .before .before .before .before .before .before .put-dec .ensures))) (one (c .before .before .before .before .before .before .before .before .before .before .before .before .put2 .ensures)) in
+    let number = one (rw (c .before .before .before .before .before .before .before .before .number .ensures) at (c .before .before .before .before .before .before .before .put-dec2 .ensures)) in
+    let all = next (next word number) (one (c .before .before .put3 .ensures)) in
+    (all .place, all .buffer)
 
 pub put-field-spec : {M : Type 1} → statement M
 put-field-spec =

@@ -1,6 +1,6 @@
 -- `put_frame` meets its contract: the pieces in a row.
-use Rattle.text.proofs.Laws.{piece, seq}
-use Rattle.lines.specs.Lines.{frameText}
+use Rattle.text.proofs.Laws.{row, one, next}
+use Rattle.lines.specs.Lines.{timesPieces, countsPieces, marksPieces, framePieces}
 use borrow.Author.Needs.{needs}
 use Rattle.lines.proofs.put_frame.Statement.{statement}
 use Rattle.lines.proofs.put_frame.Tie as tie
@@ -33,8 +33,10 @@ same-length : tie.Need-same-length
 same-length c = search needs
 
 returns : tie.Need-returns
-unfolding frameText
-returns c = seq (seq (seq (seq (seq (piece (c .before .before .before .before .before .before .before .before .before .before .before .before .before .before .before .before .before .before .before .before .before .before .before .put .ensures)) (piece (c .before .before .before .before .before .before .before .before .before .before .before .before .before .before .before .before .before .before .before .put-dec .ensures))) (c .before .before .before .before .before .before .before .before .before .before .before .before .before .before .before .put-times .ensures)) (c .before .before .before .before .before .before .before .before .before .before .before .put-counts .ensures)) (c .before .before .before .before .before .before .before .put-marks .ensures)) (piece (c .before .before .put2 .ensures))
+unfolding framePieces timesPieces countsPieces marksPieces
+returns c =
+    let all = next (next (next (next (next (one (c .before .before .before .before .before .before .before .before .before .before .before .before .before .before .before .before .before .before .before .before .before .before .before .put .ensures)) (one (c .before .before .before .before .before .before .before .before .before .before .before .before .before .before .before .before .before .before .before .put-dec .ensures))) (row (c .before .before .before .before .before .before .before .before .before .before .before .before .before .before .before .put-times .ensures))) (row (c .before .before .before .before .before .before .before .before .before .before .before .put-counts .ensures))) (row (c .before .before .before .before .before .before .before .put-marks .ensures))) (one (c .before .before .put2 .ensures)) in
+    (all .place, all .buffer)
 
 pub put-frame-spec : {M : Type 1} → statement M
 put-frame-spec =

@@ -1,17 +1,12 @@
 -- `put_line` meets its contract: a case for each line.
-use Rattle.text.proofs.Laws.{piece}
+use mathlib.Core.Path.{refl}
+use Rattle.text.specs.Put.{placeAfter, bufferAfter}
 use borrow.Author.Needs.{needs}
 use Rattle.lines.proofs.put_line.Statement.{statement}
 use Rattle.lines.proofs.put_line.Tie as tie
 
 enum-told : tie.Need-enum-told
 enum-told c = search needs
-
-slice-aggregate-put : tie.Need-slice-aggregate-put
-slice-aggregate-put c = search needs
-
-put-requires : tie.Need-put-requires
-put-requires c κs = search needs
 
 enum-known-line : tie.Need-enum-known-line
 enum-known-line c = search needs
@@ -43,32 +38,30 @@ enum-known-line-4 c = search needs
 put-end-requires : tie.Need-put-end-requires
 put-end-requires c κs = search needs
 
+returns : tie.Need-returns
+unfolding placeAfter bufferAfter
+returns c = rw (c .enum-told .given .1) (refl, refl)
+
 same-length : tie.Need-same-length
 same-length c = search needs
-
-returns : tie.Need-returns
-returns c = rw (c .before .before .before .before .before .enum-told .given .1) (piece (c .before .before .put .ensures))
-
-same-length-2 : tie.Need-same-length-2
-same-length-2 c = search needs
 
 returns-2 : tie.Need-returns-2
 returns-2 c = rw (c .before .before .before .before .before .line .given .1) (c .before .before .put-frame .ensures)
 
-same-length-3 : tie.Need-same-length-3
-same-length-3 c = search needs
+same-length-2 : tie.Need-same-length-2
+same-length-2 c = search needs
 
 returns-3 : tie.Need-returns-3
 returns-3 c = rw (c .before .before .before .before .before .before .line2 .given .1) (c .before .before .put-field .ensures)
 
-same-length-4 : tie.Need-same-length-4
-same-length-4 c = search needs
+same-length-3 : tie.Need-same-length-3
+same-length-3 c = search needs
 
 returns-4 : tie.Need-returns-4
 returns-4 c = rw (c .before .before .before .before .before .before .line3 .given .1) (c .before .before .put-field2 .ensures)
 
-same-length-5 : tie.Need-same-length-5
-same-length-5 c = search needs
+same-length-4 : tie.Need-same-length-4
+same-length-4 c = search needs
 
 returns-5 : tie.Need-returns-5
 returns-5 c = rw (c .before .before .before .before .before .line4 .given .1) (c .before .before .put-end .ensures)
@@ -78,8 +71,6 @@ put-line-spec =
     tie.close
     (tie.spec
     enum-told
-    slice-aggregate-put
-    put-requires
     enum-known-line
     put-frame-requires
     enum-known-line-2
@@ -90,13 +81,12 @@ put-line-spec =
     put-field-requires-2
     enum-known-line-4
     put-end-requires
-    same-length
     returns
-    same-length-2
+    same-length
     returns-2
-    same-length-3
+    same-length-2
     returns-3
-    same-length-4
+    same-length-3
     returns-4
-    same-length-5
+    same-length-4
     returns-5)

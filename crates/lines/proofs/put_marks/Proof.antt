@@ -1,6 +1,6 @@
 -- `put_marks` meets its contract: the pieces in a row.
-use Rattle.text.proofs.Laws.{piece, seq}
-use Rattle.lines.specs.Lines.{marksText}
+use Rattle.text.proofs.Laws.{one, next}
+use Rattle.lines.specs.Lines.{marksPieces}
 use borrow.Author.Needs.{needs}
 use Rattle.lines.proofs.put_marks.Statement.{statement}
 use Rattle.lines.proofs.put_marks.Tie as tie
@@ -27,8 +27,10 @@ same-length : tie.Need-same-length
 same-length c = search needs
 
 returns : tie.Need-returns
-unfolding marksText
-returns c = seq (seq (seq (piece (c .before .before .before .before .before .before .before .before .before .before .before .before .before .before .before .put .ensures)) (piece (c .before .before .before .before .before .before .before .before .before .before .before .put-hex64 .ensures))) (piece (c .before .before .before .before .before .before .put2 .ensures))) (piece (c .before .before .put-hex32 .ensures))
+unfolding marksPieces
+returns c =
+    let all = next (next (next (one (c .before .before .before .before .before .before .before .before .before .before .before .before .before .before .before .put .ensures)) (one (c .before .before .before .before .before .before .before .before .before .before .before .put-hex64 .ensures))) (one (c .before .before .before .before .before .before .put2 .ensures))) (one (c .before .before .put-hex32 .ensures)) in
+    (all .place, all .buffer)
 
 pub put-marks-spec : {M : Type 1} → statement M
 put-marks-spec =

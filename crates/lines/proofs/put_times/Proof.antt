@@ -1,6 +1,6 @@
 -- `put_times` meets its contract: the pieces in a row.
-use Rattle.text.proofs.Laws.{piece, seq}
-use Rattle.lines.specs.Lines.{timesText}
+use Rattle.text.proofs.Laws.{one, next}
+use Rattle.lines.specs.Lines.{timesPieces}
 use borrow.Author.Needs.{needs}
 use Rattle.lines.proofs.put_times.Statement.{statement}
 use Rattle.lines.proofs.put_times.Tie as tie
@@ -36,8 +36,10 @@ same-length : tie.Need-same-length
 same-length c = search needs
 
 returns : tie.Need-returns
-unfolding timesText
-returns c = seq (seq (seq (seq (seq (piece (c .before .before .before .before .before .before .before .before .before .before .before .before .before .before .before .before .before .before .before .before .before .before .before .before .put .ensures)) (piece (c .before .before .before .before .before .before .before .before .before .before .before .before .before .before .before .before .before .before .before .before .put-dec .ensures))) (piece (c .before .before .before .before .before .before .before .before .before .before .before .before .before .before .before .put2 .ensures))) (piece (c .before .before .before .before .before .before .before .before .before .before .before .put-dec2 .ensures))) (piece (c .before .before .before .before .before .before .put3 .ensures))) (piece (c .before .before .put-dec3 .ensures))
+unfolding timesPieces
+returns c =
+    let all = next (next (next (next (next (one (c .before .before .before .before .before .before .before .before .before .before .before .before .before .before .before .before .before .before .before .before .before .before .before .before .put .ensures)) (one (c .before .before .before .before .before .before .before .before .before .before .before .before .before .before .before .before .before .before .before .before .put-dec .ensures))) (one (c .before .before .before .before .before .before .before .before .before .before .before .before .before .before .before .put2 .ensures))) (one (c .before .before .before .before .before .before .before .before .before .before .before .put-dec2 .ensures))) (one (c .before .before .before .before .before .before .put3 .ensures))) (one (c .before .before .put-dec3 .ensures)) in
+    (all .place, all .buffer)
 
 pub put-times-spec : {M : Type 1} → statement M
 put-times-spec =

@@ -8,6 +8,7 @@ use Rattle.script.proofs.Part.{rest}
 use Rattle.listing.specs.Printed.{textFrom}
 use Rattle.turns.proofs.Laws.{taken-left}
 use Rattle.listing.proofs.Laws.{Goes, stop, go-on}
+use Rattle.lines.proofs.Written.{written}
 use Rattle.listing.proofs.list_fields.Statement.{statement}
 use Rattle.listing.proofs.list_fields.Tie as tie
 
@@ -39,7 +40,7 @@ put-line-requires : tie.Need-put-line-requires Inv-loop μ-loop
 put-line-requires c κs = search needs
 
 same-length : tie.Need-same-length Inv-loop μ-loop
-same-length c = c .before .before .before .put-line .ensures .same ∙ c .before .before .before .before .before .before .before .loop .inv .3
+same-length c = (written (c .before .before .before .before .before .one-turn .result .line) (c .before .before .before .put-line .ensures)) .same ∙ c .before .before .before .before .before .before .before .loop .inv .3
 
 returns : tie.Need-returns Inv-loop μ-loop
 returns c =
@@ -47,7 +48,7 @@ returns c =
     let a = c .before .before .before .before .before .before .before .before .before .before .args in
     let t = c .before .before .before .before .before .one-turn .result in
     let eq = rw (rest (l .at) (a .script .now)) at (c .before .before .before .before .before .one-turn .ensures) in
-    let put = c .before .before .before .put-line .ensures in
+    let put = written (c .before .before .before .before .before .one-turn .result .line) (c .before .before .before .put-line .ensures) in
     stop (a .script .now) (a .out .now) (a .w) _ (l .out) (c .before .before .before .put-line .last .0) (l .run) (l .n) (l .at) (l .w) (c .before .before .before .put-line .result) t
     (l .inv .1) (l .inv .2) (l .inv .0) (l .inv .4) eq put (c .if1 .taken)
 
@@ -78,7 +79,7 @@ loop-again c =
     let a = c .before .before .before .before .before .before .before .before .before .before .before .args in
     let t = c .before .before .before .before .before .before .one-turn .result in
     let eq = rw (rest (l .at) (a .script .now)) at (c .before .before .before .before .before .before .one-turn .ensures) in
-    let put = c .before .before .before .before .put-line .ensures in
+    let put = written (c .before .before .before .before .before .before .one-turn .result .line) (c .before .before .before .before .put-line .ensures) in
     let le = taken-left (l .run) (l .n) (l .at) (a .script .now) t eq in (
       omega arith,
       omega arith,

@@ -1,6 +1,9 @@
 -- `listing` meets its contract: one test.
 use borrow.Author.Tests.{le-leb, lt-leb}
 use mathlib.Core.List.{append-nil}
+use Rattle.refusals.specs.declared.Refusal.the-variants.{Script}
+use Rattle.lines.specs.declared.Line.the-variants as L
+use Rattle.lines.proofs.Written.{written}
 use Rattle.listing.specs.Late.{printedLate}
 use borrow.Author.Needs.{needs}
 use Rattle.listing.proofs.listing.Statement.{statement}
@@ -24,7 +27,7 @@ same-length-2 c = search needs
 
 returns-2 : tie.Need-returns-2
 unfolding printedLate
-returns-2 c = rw (lt-leb _ _ (c .before .before .before .before .if1 .left), append-nil) (c .before .before .put-line .ensures)
+returns-2 c = rw (lt-leb _ _ (c .before .before .before .before .if1 .left), append-nil) (written (L.Bad 0 Script) (c .before .before .put-line .ensures))
 
 pub listing-spec : {M : Type 1} → statement M
 listing-spec =
