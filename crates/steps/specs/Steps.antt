@@ -7,8 +7,8 @@ use Rattle.floats.specs.Word.{product}
 use Rattle.refusals.specs.declared.Refusal.{Refusal}
 use Rattle.refusals.specs.declared.Answer.{Answer}
 use Rattle.refusals.specs.declared.Answer.the-variants as A
-use Rattle.script.specs.declared.Field.{Field}
-use Rattle.script.specs.declared.Field.the-variants as F
+use Rattle.fields.specs.declared.Field.{Field}
+use Rattle.fields.specs.declared.Field.the-variants as F
 use Rattle.sources.specs.declared.Source.{Source}
 use Rattle.windows.specs.declared.Frame.{Frame}
 use Rattle.windows.specs.Opening.{emptyFrame}
