@@ -7,7 +7,7 @@ use Rattle.text.proofs.Sizes.{dec-size, hex-size}
 use Rattle.text.specs.Ascii.{ascii}
 use Rattle.refusals.specs.declared.Refusal.{Refusal}
 use Rattle.refusals.specs.Numbers.{numberOf}
-use Rattle.steps.specs.declared.Values.{Values}
+use Rattle.frame_values.specs.declared.Values.{Values}
 use Rattle.lines.specs.declared.Line.{Line}
 use Rattle.lines.specs.declared.Line.the-variants as L
 use Rattle.lines.specs.Lines.{frameText, fieldText, endText, textOf}

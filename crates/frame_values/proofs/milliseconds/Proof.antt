@@ -1,9 +1,9 @@
 -- `milliseconds` meets its contract: a rate of 0 divides to 0, as it does in the definition.
-use Rattle.steps.specs.Steps.{millisecondsOf}
+use Rattle.frame_values.specs.Values.{millisecondsOf}
 use native.Mathlib.Nat.{div-zero}
 use borrow.Author.Needs.{needs}
-use Rattle.steps.proofs.milliseconds.Statement.{statement}
-use Rattle.steps.proofs.milliseconds.Tie as tie
+use Rattle.frame_values.proofs.milliseconds.Statement.{statement}
+use Rattle.frame_values.proofs.milliseconds.Tie as tie
 
 f64-to-u64-requires : tie.Need-f64-to-u64-requires
 f64-to-u64-requires c κs = search needs

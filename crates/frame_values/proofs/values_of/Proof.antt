@@ -1,8 +1,8 @@
 -- `values_of` meets its contract: the callees' answers, put together.
-use Rattle.steps.specs.Steps.{valuesOf}
+use Rattle.frame_values.specs.Values.{valuesOf}
 use borrow.Author.Needs.{needs}
-use Rattle.steps.proofs.values_of.Statement.{statement}
-use Rattle.steps.proofs.values_of.Tie as tie
+use Rattle.frame_values.proofs.values_of.Statement.{statement}
+use Rattle.frame_values.proofs.values_of.Tie as tie
 
 elapsed-samples-requires : tie.Need-elapsed-samples-requires
 elapsed-samples-requires c κs = search needs
