@@ -8,7 +8,7 @@ use Rattle.text.specs.Ascii.{ascii}
 use Rattle.text.specs.Put.{joined}
 use Rattle.refusals.specs.declared.Refusal.{Refusal}
 use Rattle.refusals.specs.Numbers.{numberOf}
-use Rattle.steps.specs.declared.Values.{Values}
+use Rattle.frame_values.specs.declared.Values.{Values}
 use Rattle.lines.specs.declared.Line.{Line}
 use Rattle.lines.specs.declared.Line.the-variants as L
 use Rattle.lines.specs.Lines.{timesPieces, countsPieces, marksPieces, framePieces, fieldPieces, endPieces, textOf}

@@ -6,7 +6,7 @@ use Rattle.text.specs.Number.{dec, hex}
 use Rattle.text.specs.Put.{joined}
 use Rattle.refusals.specs.declared.Refusal.{Refusal}
 use Rattle.refusals.specs.Numbers.{numberOf}
-use Rattle.steps.specs.declared.Values.{Values}
+use Rattle.frame_values.specs.declared.Values.{Values}
 use Rattle.lines.specs.declared.Line.{Line}
 use Rattle.lines.specs.declared.Line.the-variants as L
 

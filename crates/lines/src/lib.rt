@@ -2,8 +2,8 @@
 ghost use mathlib.Core.Path.{_≡_};
 ghost use Rattle.text.specs.Put.{placeAfter, bufferAfter};
 ghost use Rattle.lines.specs.Lines.{timesPieces, countsPieces, marksPieces, framePieces, fieldPieces, endPieces, piecesOf};
+use frame_values::Values;
 use refusals::Refusal;
-use steps::Values;
 use text::put;
 use text::put_dec;
 use text::put_hex32;

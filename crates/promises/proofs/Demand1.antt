@@ -32,10 +32,10 @@ use Rattle.frame.specs.Call.{takenOf, refusedOf, framedOf}
 use Rattle.bin_tables.specs.Bins as bins
 use Rattle.bin_tables.specs.Logs.{lawfulLogs}
 use Rattle.mask.specs.Gains.{gainsOf}
-use Rattle.script.specs.declared.Field.{Field}
+use Rattle.fields.specs.declared.Field.{Field}
 use Rattle.script.specs.declared.Read.the-variants as R
-use Rattle.script.specs.Bytes.{be16}
-use Rattle.script.specs.Table.{kindOf, lengthOf, lawful}
+use Rattle.fields.specs.Bytes.{be16}
+use Rattle.fields.specs.Table.{kindOf, lengthOf, lawful}
 use Rattle.script.specs.Field.{misplaced, unknown, bodyOf, readOf}
 use Rattle.ending.specs.declared.Ended.{Ended}
 use Rattle.ending.specs.Ended.{ranOf}

@@ -29,8 +29,8 @@ use Rattle.bin_tables.specs.Logs.{lawfulLogs}
 use Rattle.mask.specs.Gains.{gainsOf}
 use Rattle.script.specs.declared.Read.{Read}
 use Rattle.script.specs.declared.Read.the-variants as R
-use Rattle.script.specs.Bytes.{be16}
-use Rattle.script.specs.Table.{kindOf, lengthOf, lawful}
+use Rattle.fields.specs.Bytes.{be16}
+use Rattle.fields.specs.Table.{kindOf, lengthOf, lawful}
 use Rattle.script.specs.Field.{misplaced, unknown, readOf}
 use Rattle.ending.specs.Ended.{badOf, lastTurn}
 use Rattle.entry.specs.Entry.{entryAnswer, entryBytes}

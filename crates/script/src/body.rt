@@ -1,21 +1,27 @@
 // A field from its header on, where its tag is known.
 ghost use mathlib.Core.Path.{_≡_};
-ghost use Prim.Native.Nat.{_≤_};
+ghost use Prim.Native.Nat.{_+_, _*_, _≤_};
 ghost use lib.ListN.{length};
 ghost use Rattle.script.specs.Field.{bodyOf};
-use crate::Kind;
 use crate::Read;
-use crate::bytes;
-use crate::values;
+use crate::kinds;
+use fields::Kind;
 use refusals::Refusal;
+
+// The length that a header says.
+fn length_said(high: u8, low: u8) -> usize
+    ensures { λ r. ⌜ r ≡ high * 256 + low ⌝ }
+{
+    (high as usize) * 256 + (low as usize)
+}
 
 // The length, the value cut, the value.
 pub fn body_of(kind: Kind, s: &[u8]) -> Read
     requires { ⌜ 3 ≤ length (now s) ⌝ }
     ensures { λ r. ⌜ r ≡ bodyOf kind (now (s .entry)) ⌝ }
 {
-    let n = values::length_of(kind);
-    let said = bytes::be16_at(s, 1) as usize;
+    let n = kinds::length_of(kind);
+    let said = length_said(s[1], s[2]);
     if said != n {
         return Read::Bad(Refusal::Cut);
     }
@@ -23,8 +29,8 @@ pub fn body_of(kind: Kind, s: &[u8]) -> Read
         return Read::Bad(Refusal::Cut);
     }
     let v = &s[3..];
-    if values::is_lawful(kind, v) {
-        Read::Field(values::field_of(kind, v), 3 + n)
+    if fields::is_lawful(kind, v) {
+        Read::Field(fields::field_of(kind, v), 3 + n)
     } else {
         Read::Bad(Refusal::Value)
     }

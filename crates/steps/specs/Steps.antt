@@ -1,14 +1,12 @@
 -- What one field does to the run: 01's table, one line a tag. Definitions only.
-use Prim.Native.Nat.{ℕ, _/_}
 use mathlib.Core.Bool.{Bool}
-use lib.Ieee.{Float, binary32, toBits, toUnsigned}
+use lib.Ieee.{Float}
 use Rattle.floats.specs.Names.{f32}
-use Rattle.floats.specs.Word.{product}
 use Rattle.refusals.specs.declared.Refusal.{Refusal}
 use Rattle.refusals.specs.declared.Answer.{Answer}
 use Rattle.refusals.specs.declared.Answer.the-variants as A
-use Rattle.script.specs.declared.Field.{Field}
-use Rattle.script.specs.declared.Field.the-variants as F
+use Rattle.fields.specs.declared.Field.{Field}
+use Rattle.fields.specs.declared.Field.the-variants as F
 use Rattle.sources.specs.declared.Source.{Source}
 use Rattle.windows.specs.declared.Frame.{Frame}
 use Rattle.windows.specs.Opening.{emptyFrame}
@@ -22,11 +20,10 @@ use Rattle.changes.specs.Changes.{configuredOf, notesOf, soughtOf}
 use Rattle.source_calls.specs.Slots.{setSourceOf, retireSourceOf, releaseSourceOf}
 use Rattle.engine.specs.Advance.{advancedOf}
 use Rattle.triggers.specs.Triggers.{triggeredOf, reservedOf, triggeredBy}
-use Rattle.pool.specs.Pool.{activeCount}
+use Rattle.frame_values.specs.Values.{valuesOf}
 use Rattle.frame.specs.declared.Framed.{Framed}
 use Rattle.frame.specs.Call.{framedOf as takeFrameOf}
 use Rattle.steps.specs.declared.Run.{Run}
-use Rattle.steps.specs.declared.Values.{Values}
 use Rattle.steps.specs.declared.Reply.the-variants as R
 use Rattle.steps.specs.declared.Stepped.{Stepped}
 
@@ -60,22 +57,6 @@ outcomeOf run e (O.Refused r) = refusedOf run e r
 
 abbrev pub firedOf : Run → Triggered → Stepped
 firedOf run t = outcomeOf run (t .engine) (t .outcome)
-
--- samples * 1000 / whole part of the rate, rounded down; the product is one of 64 bits
-unfoldable pub millisecondsOf : ℕ → Float → ℕ
-millisecondsOf samples rate = product samples 1000 / toUnsigned 64 rate
-
-unfoldable pub valuesOf : Engine → Float → Values
-valuesOf e activity =
-    record {
-      sample = e .clock .sample;
-      ms = millisecondsOf (e .clock .sample) (e .prepared .«sample_rate»);
-      active = activeCount (e .particles);
-      births = e .tally .births;
-      dropped = e .tally .dropped;
-      hash = e .tally .«decision_hash»;
-      activity = toBits binary32 activity;
-    }
 
 abbrev pub shownOf : Engine → Frame → Stepped
 shownOf e f = record { run = record { engine = e; frame = f }; reply = R.Framed (valuesOf e (f .activity)) }

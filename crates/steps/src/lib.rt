@@ -3,13 +3,14 @@ ghost use mathlib.Core.Path.{_≡_};
 ghost use Rattle.source_calls.specs.Slots.{setSourceOf};
 ghost use Rattle.triggers.specs.Triggers.{reservedOf};
 ghost use Rattle.steps.specs.Steps as Steps;
-ghost use Rattle.steps.specs.Steps.{withEngine, quietOf, refusedOf, doneOf, firedOf, millisecondsOf, valuesOf, shownOf, framedOf, sourceOf, stepOf};
+ghost use Rattle.steps.specs.Steps.{withEngine, quietOf, refusedOf, doneOf, firedOf, shownOf, framedOf, sourceOf, stepOf};
 use engine::Outcome;
 use engine::Triggered;
+use fields::Field;
 use frame::Framed;
+pub use frame_values::Values;
 use refusals::Answer;
 use refusals::Refusal;
-use script::Field;
 use sources::Source;
 use state::Done;
 use state::Engine;
@@ -19,17 +20,6 @@ use windows::Frame;
 pub struct Run {
     pub engine: Engine,
     pub frame: Frame,
-}
-
-// What the line of an accepted frame says, after the frame.
-pub struct Values {
-    pub sample: u64,
-    pub ms: u64,
-    pub active: u64,
-    pub births: u64,
-    pub dropped: u64,
-    pub hash: u64,
-    pub activity: u32,
 }
 
 // What a field comes to: nothing to print, a refusal, an accepted frame.
@@ -106,36 +96,10 @@ fn triggered(run: Run, t: Triggered) -> Stepped
     }
 }
 
-// Samples * 1000 / whole part of the rate, rounded down.
-fn milliseconds(samples: u64, rate: f64) -> u64
-    ensures { λ r. ⌜ r ≡ millisecondsOf samples rate ⌝ }
-{
-    let whole = floats::f64_to_u64(rate);
-    if whole == 0 {
-        return 0;
-    }
-    floats::wrapping_mul(samples, 1000) / whole
-}
-
-fn values_of(engine: Engine, activity: f32) -> Values
-    ensures { λ r. ⌜ r ≡ valuesOf engine activity ⌝ }
-{
-    let sample = engine::elapsed_samples(engine);
-    Values {
-        sample,
-        ms: milliseconds(sample, engine.prepared.sample_rate),
-        active: engine::active_count(engine) as u64,
-        births: engine.tally.births,
-        dropped: engine.tally.dropped,
-        hash: engine.tally.decision_hash,
-        activity: floats::bits32(activity),
-    }
-}
-
 fn shown(engine: Engine, frame: Frame) -> Stepped
     ensures { λ r. ⌜ r ≡ shownOf engine frame ⌝ }
 {
-    let values = values_of(engine, frame.activity);
+    let values = frame_values::values_of(engine, frame.activity);
     let run = Run { engine, frame };
     Stepped {
         run,

@@ -9,22 +9,25 @@ use Rattle.script.proofs.body.body_of.Tie as tie
 length-of-requires : tie.Need-length-of-requires
 length-of-requires c κs = search needs
 
-be16-at-requires : tie.Need-be16-at-requires
-be16-at-requires c κs = search needs
+shared-slice-read-length-said : tie.Need-shared-slice-read-length-said
+shared-slice-read-length-said c = search needs
 
-cast-said : tie.Need-cast-said
-cast-said c = search needs
+shared-slice-read-length-said-2 : tie.Need-shared-slice-read-length-said-2
+shared-slice-read-length-said-2 c = search needs
+
+length-said-requires : tie.Need-length-said-requires
+length-said-requires c κs = search needs
 
 returns : tie.Need-returns
 unfolding bodyOf
-returns c = rw (← c .before .be16-at .ensures, ← c .before .before .length-of .ensures, ne-eqb _ _ (c .if1 .taken))
+returns c = rw (← c .before .length-said .ensures, ← c .before .before .before .before .length-of .ensures, ne-eqb _ _ (c .if1 .taken))
 
 sub-if2 : tie.Need-sub-if2
 sub-if2 c = search needs
 
 returns-2 : tie.Need-returns-2
 unfolding bodyOf
-returns-2 c = rw (← c .before .before .be16-at .ensures, ← c .before .before .before .length-of .ensures, eq-eqb _ _ (c .before .if1 .left), lt-leb _ _ (c .if2 .taken))
+returns-2 c = rw (← c .before .before .length-said .ensures, ← c .before .before .before .before .before .length-of .ensures, eq-eqb _ _ (c .before .if1 .left), lt-leb _ _ (c .if2 .taken))
 
 sub-v : tie.Need-sub-v
 sub-v c = search needs
@@ -41,28 +44,29 @@ is-lawful-requires c κs = search needs
 field-of-requires : tie.Need-field-of-requires
 field-of-requires c κs = search needs
 
-add-t17 : tie.Need-add-t17
-add-t17 c = search needs
+add-t20 : tie.Need-add-t20
+add-t20 c = search needs
 
 returns-3 : tie.Need-returns-3
 unfolding bodyOf
 returns-3 c =
-    let s = c .before .before .before .before .before .before .before .before .before .args .s .now in
-    rw (← c .before .before .before .before .before .before .be16-at .ensures, ← c .before .before .before .before .before .before .before .length-of .ensures, eq-eqb _ _ (c .before .before .before .before .before .if1 .left), le-leb _ _ (c .before .before .before .before .if2 .left), ← (rw (rest 3 s) at (c .before .before .is-lawful .ensures)), c .before .if3 .taken, rw (rest 3 s) at (c .field-of .ensures))
+    let s = c .before .before .before .before .before .before .before .before .before .before .before .args .s .now in
+    rw (← c .before .before .before .before .before .before .length-said .ensures, ← c .before .before .before .before .before .before .before .before .before .length-of .ensures, eq-eqb _ _ (c .before .before .before .before .before .if1 .left), le-leb _ _ (c .before .before .before .before .if2 .left), ← (rw (rest 3 s) at (c .before .before .is-lawful .ensures)), c .before .if3 .taken, rw (rest 3 s) at (c .field-of .ensures))
 
 returns-4 : tie.Need-returns-4
 unfolding bodyOf
 returns-4 c =
-    let s = c .before .before .before .before .before .before .before .before .args .s .now in
-    rw (← c .before .before .before .before .before .be16-at .ensures, ← c .before .before .before .before .before .before .length-of .ensures, eq-eqb _ _ (c .before .before .before .before .if1 .left), le-leb _ _ (c .before .before .before .if2 .left), ← (rw (rest 3 s) at (c .before .is-lawful .ensures)), c .if3 .left)
+    let s = c .before .before .before .before .before .before .before .before .before .before .args .s .now in
+    rw (← c .before .before .before .before .before .length-said .ensures, ← c .before .before .before .before .before .before .before .before .length-of .ensures, eq-eqb _ _ (c .before .before .before .before .if1 .left), le-leb _ _ (c .before .before .before .if2 .left), ← (rw (rest 3 s) at (c .before .is-lawful .ensures)), c .if3 .left)
 
 pub body-of-spec : {M : Type 1} → statement M
 body-of-spec =
     tie.close
     (tie.spec
     length-of-requires
-    be16-at-requires
-    cast-said
+    shared-slice-read-length-said
+    shared-slice-read-length-said-2
+    length-said-requires
     returns
     sub-if2
     returns-2
@@ -71,6 +75,6 @@ body-of-spec =
     part-v-end
     is-lawful-requires
     field-of-requires
-    add-t17
+    add-t20
     returns-3
     returns-4)

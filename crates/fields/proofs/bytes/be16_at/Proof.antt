@@ -1,0 +1,41 @@
+-- `be16_at` meets its contract: the callees' answers, put together.
+use borrow.Author.Needs.{needs}
+use Rattle.fields.proofs.bytes.be16_at.Statement.{statement}
+use Rattle.fields.proofs.bytes.be16_at.Tie as tie
+
+byte-requires : tie.Need-byte-requires
+byte-requires c κs = search needs
+
+cast-result : tie.Need-cast-result
+cast-result c = search needs
+
+mul-result : tie.Need-mul-result
+mul-result c = search needs
+
+add-byte : tie.Need-add-byte
+add-byte c = search needs
+
+byte-requires-2 : tie.Need-byte-requires-2
+byte-requires-2 c κs = search needs
+
+cast-result-2 : tie.Need-cast-result-2
+cast-result-2 c = search needs
+
+add-result : tie.Need-add-result
+add-result c = search needs
+
+returns : tie.Need-returns
+returns c = search needs
+
+pub be16-at-spec : {M : Type 1} → statement M
+be16-at-spec =
+    tie.close
+    (tie.spec
+    byte-requires
+    cast-result
+    mul-result
+    add-byte
+    byte-requires-2
+    cast-result-2
+    add-result
+    returns)

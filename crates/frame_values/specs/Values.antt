@@ -1,0 +1,23 @@
+-- What the line of an accepted frame says of the engine. Definitions only.
+use Prim.Native.Nat.{ℕ, _/_}
+use lib.Ieee.{Float, binary32, toBits, toUnsigned}
+use Rattle.floats.specs.Word.{product}
+use Rattle.pool.specs.Pool.{activeCount}
+use Rattle.state.specs.declared.Engine.{Engine}
+use Rattle.frame_values.specs.declared.Values.{Values}
+
+-- samples * 1000 / whole part of the rate, rounded down; the product is one of 64 bits
+unfoldable pub millisecondsOf : ℕ → Float → ℕ
+millisecondsOf samples rate = product samples 1000 / toUnsigned 64 rate
+
+unfoldable pub valuesOf : Engine → Float → Values
+valuesOf e activity =
+    record {
+      sample = e .clock .sample;
+      ms = millisecondsOf (e .clock .sample) (e .prepared .«sample_rate»);
+      active = activeCount (e .particles);
+      births = e .tally .births;
+      dropped = e .tally .dropped;
+      hash = e .tally .«decision_hash»;
+      activity = toBits binary32 activity;
+    }
