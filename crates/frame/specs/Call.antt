@@ -12,7 +12,10 @@ use Rattle.refusals.specs.declared.Refusal.the-variants.{Seconds}
 use Rattle.windows.specs.declared.Window.{Window}
 use Rattle.windows.specs.Opening.{emptyFrame}
 use Rattle.frame.specs.declared.Framed.{Framed}
-use Rattle.frame.specs.Frame.{sweepOne, shownOf, windowsOf, activityOf, accepted}
+use Rattle.places.specs.Freed.{sweepOne}
+use Rattle.places.specs.Shown.{shownOf}
+use Rattle.partials.specs.Windows.{windowsOf}
+use Rattle.frame.specs.Frame.{activityOf, accepted}
 
 -- if age >= p.lifetime || retirement >= 1.0 { *p = Particle::default(); }, at each place
 unfoldable pub heldOf : Engine → List Particle
