@@ -4,8 +4,10 @@ ghost use Prim.Native.Nat.{_≤_};
 ghost use lib.ListN.{length};
 ghost use Rattle.lists.specs.Table.{table};
 ghost use Rattle.windows.specs.Opening.{nil};
-ghost use Rattle.mask.specs.Gains.{openAt};
-ghost use Rattle.mask.specs.Walk.{Numbers, Part, Raised, Sorted};
+ghost use Rattle.openings.specs.Opened.{openAt, openedOf};
+ghost use Rattle.openings.specs.Walk.{Numbers, Part, Raised, Sorted};
+use refusals::Answer;
+use refusals::Refusal;
 use windows::Window;
 
 // Nothing in scratch is ever a NaN, so that the Rust's `max` is one test.
@@ -38,7 +40,7 @@ fn touch(w: Window, logs: &[f32], scratch: &mut [f32])
     }
 }
 
-pub fn walk(windows: [Window; 192], logs: &[f32], scratch: &mut [f32])
+fn walk(windows: [Window; 192], logs: &[f32], scratch: &mut [f32])
     requires { ⌜ (now scratch ≡ table (length (now logs)) (λ i. nil)) × Sorted (now logs) ⌝ }
     ensures { λ _. ⌜ now (scratch .exit) ≡ table (length (now (logs .entry))) (openAt windows (now (logs .entry))) ⌝ }
 {
@@ -46,4 +48,28 @@ pub fn walk(windows: [Window; 192], logs: &[f32], scratch: &mut [f32])
         let w = windows[j];
         touch(w, logs, scratch);
     }
+}
+
+// Every bin shut.
+fn clear(scratch: &mut [f32])
+    ensures { λ _. ⌜ now (scratch .exit) ≡ table (length (now (scratch .entry))) (λ i. nil) ⌝ }
+{
+    for i in 0..scratch.len() {
+        scratch[i] = 0.0;
+    }
+}
+
+// The openness of each bin under the windows. A refusal leaves scratch as it was.
+pub fn open_bins(windows: [Window; 192], logs: &[f32], scratch: &mut [f32]) -> Answer
+    ensures { λ r. ⌜ (r, now (scratch .exit)) ≡ openedOf windows (now (logs .entry)) (now (scratch .entry)) ⌝ }
+{
+    if scratch.len() != logs.len() {
+        return Answer::Refused(Refusal::Lengths);
+    }
+    if bin_tables::lawful(logs) {
+        clear(scratch);
+        walk(windows, logs, scratch);
+        return Answer::Taken;
+    }
+    Answer::Refused(Refusal::Logs)
 }

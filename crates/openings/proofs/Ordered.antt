@@ -17,7 +17,7 @@ use Rattle.floats_laws.proofs.Rising.{le-refl}
 use Rattle.floats.proofs.Rules.{le-trans, not-lt→le, finite-number}
 use Rattle.floats_laws.proofs.Through.{le-lt}
 use Rattle.bin_tables.specs.Logs.{lawfulAt, lawfulLogs}
-use Rattle.mask.specs.Walk.{Sorted}
+use Rattle.openings.specs.Walk.{Sorted}
 
 or-past : (a b : Bool) → a ≡ false → T (a || b) → T b
 or-past true b e t = absurd (subst T e tt)

@@ -15,9 +15,9 @@ use Rattle.floats.specs.Names.{add32, sub32}
 use Rattle.floats.specs.Choose.{max}
 use Rattle.windows.specs.declared.Window.{Window}
 use Rattle.windows.specs.Opening.{nil, opennessOf}
-use Rattle.mask.specs.Gains.{touches, raisedOf}
-use Rattle.mask.specs.Search.{First}
-use Rattle.mask.specs.Walk.{Part, Raised}
+use Rattle.openings.specs.Opened.{touches, raisedOf}
+use Rattle.openings.specs.Search.{First}
+use Rattle.openings.specs.Walk.{Part, Raised}
 
 -- ---- one range
 module _ (w : Window) (logs xs : List Float) (start : ℕ) where

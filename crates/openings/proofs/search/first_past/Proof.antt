@@ -4,9 +4,9 @@ use Prim.Native.Nat.{ℕ, _+_, _/_}
 use mathlib.Core.Path.{refl, ap}
 use lib.ListN.{length, getD}
 use lib.Ieee.{nan, le}
-use Rattle.mask.proofs.Halves.{Halves, halves-none, halves-more, halves-all}
-use Rattle.mask.proofs.search.first_past.Statement.{statement}
-use Rattle.mask.proofs.search.first_past.Tie as tie
+use Rattle.openings.proofs.Halves.{Halves, halves-none, halves-more, halves-all}
+use Rattle.openings.proofs.search.first_past.Statement.{statement}
+use Rattle.openings.proofs.search.first_past.Tie as tie
 
 abbrev Inv-loop : tie.InvT-loop
 Inv-loop logs x base₀ size₀ base size = Halves (λ (i : ℕ). le (getD logs i nan) x) (length logs) base size

@@ -1,26 +1,27 @@
--- `fill` meets its contract: the same at each place.
+-- `clear` meets its contract: the same at each place.
 use borrow.Author.Needs.{needs}
 use Prim.Native.Nat.{ℕ, _-_}
 use mathlib.Core.Path.{refl}
 use lib.ListN.{length}
+use Rattle.windows.specs.Opening.{nil}
 use Rattle.lists.specs.Table.{Filled, filled-none, filled-more, filled-all}
-use Rattle.mask.proofs.gain.fill.Statement.{statement}
-use Rattle.mask.proofs.gain.fill.Tie as tie
+use Rattle.openings.proofs.touch.clear.Statement.{statement}
+use Rattle.openings.proofs.touch.clear.Tie as tie
 
 abbrev Inv-loop : tie.InvT-loop
-Inv-loop slice₀ x i₀ i-end slice i = Filled (λ (j : ℕ). x) (length slice₀) i slice
+Inv-loop scratch₀ i₀ i-end scratch i = Filled (λ (j : ℕ). nil) (length scratch₀) i scratch
 
 abbrev μ-loop : tie.MeasureT-loop
-μ-loop slice₀ x i₀ i-end slice i = length slice₀ - i
+μ-loop scratch₀ i₀ i-end scratch i = length scratch₀ - i
 
 loop-holds : tie.Need-loop-holds Inv-loop μ-loop
 loop-holds c = filled-none _ _ _ refl
 
-mul-slice : tie.Need-mul-slice Inv-loop μ-loop
-mul-slice c = search needs
+mul-scratch : tie.Need-mul-scratch Inv-loop μ-loop
+mul-scratch c = search needs
 
-slice-write-slice : tie.Need-slice-write-slice Inv-loop μ-loop
-slice-write-slice c = search needs
+slice-write-scratch : tie.Need-slice-write-scratch Inv-loop μ-loop
+slice-write-scratch c = search needs
 
 add-i : tie.Need-add-i Inv-loop μ-loop
 add-i c = search needs
@@ -37,15 +38,15 @@ same-length c = search needs
 returns : tie.Need-returns Inv-loop μ-loop
 returns c = filled-all (c .before .loop .inv) (c .loop-test .left)
 
-pub fill-spec : {M : Type 1} → statement M
-fill-spec =
+pub clear-spec : {M : Type 1} → statement M
+clear-spec =
     tie.close
     (tie.spec
     Inv-loop
     μ-loop
     loop-holds
-    mul-slice
-    slice-write-slice
+    mul-scratch
+    slice-write-scratch
     add-i
     loop-less
     loop-again

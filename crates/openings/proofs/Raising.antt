@@ -15,8 +15,8 @@ use Rattle.floats.proofs.Floor.{cond-number}
 use Rattle.floats.proofs.Rules.{lt→le, le-right}
 use Rattle.windows.specs.declared.Window.{Window}
 use Rattle.windows.specs.Opening.{nil, opennessOf}
-use Rattle.mask.specs.Gains.{touches, raisedOf}
-use Rattle.mask.specs.Walk.{Numbers, Raised}
+use Rattle.openings.specs.Opened.{touches, raisedOf}
+use Rattle.openings.specs.Walk.{Numbers, Raised}
 
 module _ (o v : Float) (u : T (not (isNan o))) where
   pub one-test : cond (lt o v) v o ≡ max o v

@@ -10,8 +10,8 @@ use Rattle.lists.specs.Table.{table, length-table, table-at}
 use Rattle.lists.specs.Walk.{Walked, walked-none, walked-more, walked-all}
 use Rattle.windows.specs.declared.Window.{Window}
 use Rattle.windows.specs.Opening.{nil}
-use Rattle.mask.specs.Gains.{raising, openAt}
-use Rattle.mask.specs.Walk.{Raised}
+use Rattle.openings.specs.Opened.{raising, openAt}
+use Rattle.openings.specs.Walk.{Raised}
 
 -- every bin is as the first j windows leave it
 pub record Opened (ws : List Window) (logs : List Float) (j : ℕ) (ys : List Float) : Type 0 where

@@ -4,7 +4,7 @@ use mathlib.Core.Bool.{Bool, true, false, cond}
 use Prim.Native.Nat.{ℕ, _+_, _-_, _/_, _≤_, _<_}
 use native.Mathlib.Omega.{arith}
 use Rattle.casts.proofs.Sat.{no}
-use Rattle.mask.specs.Search.{Falls, First}
+use Rattle.openings.specs.Search.{Falls, First}
 
 -- the invariant: what lies below base passes, and what lies from base + size on fails
 pub record Halves (P : ℕ → Bool) (n base size : ℕ) : Type 0 where

@@ -4,7 +4,7 @@ ghost use mathlib.Core.Bool.{cond};
 ghost use Prim.Native.Nat.{_≤_};
 ghost use lib.ListN.{length, getD};
 ghost use lib.Ieee.{nan, lt, le};
-ghost use Rattle.mask.specs.Search.{Falls, First};
+ghost use Rattle.openings.specs.Search.{Falls, First};
 
 // h or nothing: straight code, which compiles to a select.
 fn step_if(t: bool, h: usize) -> usize

@@ -3,9 +3,9 @@ use borrow.Author.Needs.{needs}
 use native.Mathlib.Omega.{arith}
 use lib.Ieee.{binary32}
 use lib.Ieee.Fits.{sub-fits, add-fits}
-use Rattle.mask.proofs.Ranges.{raised-off, raised-short, raised-none, raised-range}
-use Rattle.mask.proofs.touch.touch.Statement.{statement}
-use Rattle.mask.proofs.touch.touch.Tie as tie
+use Rattle.openings.proofs.Ranges.{raised-off, raised-short, raised-none, raised-range}
+use Rattle.openings.proofs.touch.touch.Statement.{statement}
+use Rattle.openings.proofs.touch.touch.Tie as tie
 
 returns : tie.Need-returns
 returns c = raised-off _ _ _ (c .before .before .before .before .pre .0) (c .if1 .taken)

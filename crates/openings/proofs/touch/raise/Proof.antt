@@ -8,11 +8,11 @@ use lib.Dec.{T}
 use lib.ListN.{length, getD}
 use lib.Ieee.{Float, nan, isNan}
 use Rattle.floats.specs.Choose.{max}
-use Rattle.mask.specs.Walk.{Part}
-use Rattle.mask.proofs.Raising.{one-test}
-use Rattle.mask.proofs.Ranges.{part-none, part-more}
-use Rattle.mask.proofs.touch.raise.Statement.{statement}
-use Rattle.mask.proofs.touch.raise.Tie as tie
+use Rattle.openings.specs.Walk.{Part}
+use Rattle.openings.proofs.Raising.{one-test}
+use Rattle.openings.proofs.Ranges.{part-none, part-more}
+use Rattle.openings.proofs.touch.raise.Statement.{statement}
+use Rattle.openings.proofs.touch.raise.Tie as tie
 
 abbrev Inv-loop : tie.InvT-loop
 Inv-loop w logs scratch₀ start end i₀ scratch i = Part w logs scratch₀ start i scratch × (i ≤ end)

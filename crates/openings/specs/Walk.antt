@@ -9,8 +9,8 @@ use lib.Ieee.{Float, nan, binary32, lt, le, fits, isNan}
 use Rattle.floats.specs.Choose.{max}
 use Rattle.windows.specs.declared.Window.{Window}
 use Rattle.windows.specs.Opening.{opennessOf}
-use Rattle.mask.specs.Gains.{raisedOf}
-use Rattle.mask.specs.Search.{Falls}
+use Rattle.openings.specs.Opened.{raisedOf}
+use Rattle.openings.specs.Search.{Falls}
 
 -- the bins are in order: the two tests of a search fall, at any bound
 pub record Sorted (logs : List Float) : Type 0 where

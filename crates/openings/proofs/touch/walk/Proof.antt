@@ -4,11 +4,11 @@ use Prim.Native.Nat.{_-_}
 use mathlib.Core.Path.{sym, ap, _∙_}
 use lib.ListN.{length}
 use Rattle.lists.specs.Table.{length-table}
-use Rattle.mask.specs.Walk.{Numbers}
-use Rattle.mask.proofs.Raising.{numbers-raised, numbers-blank}
-use Rattle.mask.proofs.Opens.{Opened, opened-none, opened-more, opened-all}
-use Rattle.mask.proofs.touch.walk.Statement.{statement}
-use Rattle.mask.proofs.touch.walk.Tie as tie
+use Rattle.openings.specs.Walk.{Numbers}
+use Rattle.openings.proofs.Raising.{numbers-raised, numbers-blank}
+use Rattle.openings.proofs.Opens.{Opened, opened-none, opened-more, opened-all}
+use Rattle.openings.proofs.touch.walk.Statement.{statement}
+use Rattle.openings.proofs.touch.walk.Tie as tie
 
 abbrev Inv-loop : tie.InvT-loop
 Inv-loop logs scratch₀ windows j₀ scratch j = Opened windows logs j scratch × Numbers scratch
