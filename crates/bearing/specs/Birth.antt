@@ -8,8 +8,9 @@ use lib.Ieee.{binary32, toBits}
 use Rattle.lists.specs.Pick.{pick}
 use Rattle.floats.specs.Word.{rotated}
 use Rattle.draws.specs.Draws.{mixOf, randomOf}
-use Rattle.births.specs.declared.Voice.{Voice}
-use Rattle.births.specs.Births.{freeVoiceOf, sourceVoiceOf, newbornOf}
+use Rattle.voices.specs.declared.Voice.{Voice}
+use Rattle.voices.specs.Voices.{freeVoiceOf, sourceVoiceOf}
+use Rattle.births.specs.Births.{newbornOf}
 use Rattle.pool.specs.declared.Particle.{Particle}
 use Rattle.pool.specs.Pool.{freePlace}
 use Rattle.sources.specs.Sources.{chosenOf}

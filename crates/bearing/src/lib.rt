@@ -1,11 +1,11 @@
 // One birth: its source, the attempt, the place.
 ghost use mathlib.Core.Path.{_≡_};
 ghost use Rattle.bearing.specs.Birth.{withLast, droppedOne, triedOne, wordOf, hashOf, bornOne, voiceFor, newbornFor, admittedOf, isBarred, attemptedOf, chosenFor, bornOf};
-use births::Voice;
 use pool::Particle;
 use state::Engine;
 use state::Next;
 use state::Tally;
+use voices::Voice;
 
 pub const MAX_BIRTH_ATTEMPTS: u64 = 64;
 
@@ -67,11 +67,11 @@ fn voice(engine: Engine, index: u64, slot: usize) -> Voice
 {
     if slot < 256 {
         let source = engine.sources[slot];
-        return births::source_voice(slot, source);
+        return voices::source_voice(slot, source);
     }
     let config = engine.config;
     let shape = config.shape;
-    births::free_voice(
+    voices::free_voice(
         shape,
         index,
         engine.clock.phase,

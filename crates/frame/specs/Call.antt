@@ -2,7 +2,7 @@
 use mathlib.Core.List.{List, map}
 use lib.Ieee.{Float}
 use Rattle.lists.specs.Pick.{pick}
-use Rattle.births.specs.Births.{maxHzOf}
+use Rattle.voices.specs.Voices.{maxHzOf}
 use Rattle.state.specs.declared.Engine.{Engine}
 use Rattle.state.specs.declared.Tally.{Tally}
 use Rattle.state.specs.State.{withParticles, withTally}

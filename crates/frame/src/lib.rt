@@ -61,7 +61,7 @@ fn taken(engine: Engine, bin_hz: f32, elapsed_seconds: f32) -> Framed
     let particles = engine.particles;
     let held = places::sweep(particles, sample, rate);
     let shown = places::show_all(held, sample, rate);
-    let windows = partials::windows(shown, logs, bin_hz, births::max_hz(rate));
+    let windows = partials::windows(shown, logs, bin_hz, voices::max_hz(rate));
     let activity = activity(engine.activity, config.enabled, elapsed_seconds);
     let frame = Frame { windows, activity };
     let engine = renewed(engine, held, activity);

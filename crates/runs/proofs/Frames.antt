@@ -8,7 +8,7 @@ use lib.ListN.{length, getD, length-map}
 use lib.Ieee.{Float, binary32, fits, ofBits}
 use Rattle.lists.specs.Pick.{either, by-case}
 use Rattle.floats_laws.proofs.Unit.{Unit, nought-unit}
-use Rattle.births.specs.Births.{maxHzOf}
+use Rattle.voices.specs.Voices.{maxHzOf}
 use Rattle.pool.specs.declared.Particle.{Particle}
 use Rattle.pool.specs.Pool.{freeParticle}
 use Rattle.windows.specs.declared.Window.{Window}

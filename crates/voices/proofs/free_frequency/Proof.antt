@@ -1,8 +1,8 @@
 -- `free_frequency` meets its contract: a case for each shape.
-use Rattle.births.specs.Births.{freeHzOf}
+use Rattle.voices.specs.Voices.{freeHzOf}
 use borrow.Author.Needs.{needs}
-use Rattle.births.proofs.free_frequency.Statement.{statement}
-use Rattle.births.proofs.free_frequency.Tie as tie
+use Rattle.voices.proofs.free_frequency.Statement.{statement}
+use Rattle.voices.proofs.free_frequency.Tie as tie
 
 enum-told : tie.Need-enum-told
 enum-told c = search needs

@@ -1,8 +1,8 @@
 -- `free_voice` meets its contract: the callees' answers, put together.
-use Rattle.births.specs.Births.{freeVoiceOf}
+use Rattle.voices.specs.Voices.{freeVoiceOf}
 use borrow.Author.Needs.{needs}
-use Rattle.births.proofs.free_voice.Statement.{statement}
-use Rattle.births.proofs.free_voice.Tie as tie
+use Rattle.voices.proofs.free_voice.Statement.{statement}
+use Rattle.voices.proofs.free_voice.Tie as tie
 
 max-hz-requires : tie.Need-max-hz-requires
 max-hz-requires c κs = search needs

@@ -1,8 +1,8 @@
 -- `max_hz` meets its contract: the callees' answers, put together.
-use Rattle.births.specs.Births.{maxHzOf}
+use Rattle.voices.specs.Voices.{maxHzOf}
 use borrow.Author.Needs.{needs}
-use Rattle.births.proofs.max_hz.Statement.{statement}
-use Rattle.births.proofs.max_hz.Tie as tie
+use Rattle.voices.proofs.max_hz.Statement.{statement}
+use Rattle.voices.proofs.max_hz.Tie as tie
 
 f64-to-f32-requires : tie.Need-f64-to-f32-requires
 f64-to-f32-requires c κs = search needs

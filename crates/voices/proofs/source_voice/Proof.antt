@@ -1,8 +1,8 @@
 -- `source_voice` meets its contract: its strength is held to 0 and 1.
-use Rattle.births.specs.Births.{sourceVoiceOf}
+use Rattle.voices.specs.Voices.{sourceVoiceOf}
 use borrow.Author.Needs.{needs}
-use Rattle.births.proofs.source_voice.Statement.{statement}
-use Rattle.births.proofs.source_voice.Tie as tie
+use Rattle.voices.proofs.source_voice.Statement.{statement}
+use Rattle.voices.proofs.source_voice.Tie as tie
 
 clamp32-requires : tie.Need-clamp32-requires
 clamp32-requires c κs = search needs

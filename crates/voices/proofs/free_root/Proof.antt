@@ -1,8 +1,8 @@
 -- `free_root` meets its contract: the callees' answers, put together.
-use Rattle.births.specs.Births.{freeRootOf}
+use Rattle.voices.specs.Voices.{freeRootOf}
 use borrow.Author.Needs.{needs}
-use Rattle.births.proofs.free_root.Statement.{statement}
-use Rattle.births.proofs.free_root.Tie as tie
+use Rattle.voices.proofs.free_root.Statement.{statement}
+use Rattle.voices.proofs.free_root.Tie as tie
 
 floor64-requires : tie.Need-floor64-requires
 floor64-requires c κs = search needs
