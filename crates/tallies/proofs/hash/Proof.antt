@@ -1,8 +1,8 @@
 -- `hash` meets its contract: the callees' answers, put together.
-use Rattle.bearing.specs.Birth.{hashOf}
+use Rattle.tallies.specs.Tallies.{hashOf}
 use borrow.Author.Needs.{needs}
-use Rattle.bearing.proofs.hash.Statement.{statement}
-use Rattle.bearing.proofs.hash.Tie as tie
+use Rattle.tallies.proofs.hash.Statement.{statement}
+use Rattle.tallies.proofs.hash.Tie as tie
 
 rotate-left-requires : tie.Need-rotate-left-requires
 rotate-left-requires c κs = search needs

@@ -1,7 +1,7 @@
 -- `drop_one` meets its contract: one counter grows.
 use borrow.Author.Needs.{needs}
-use Rattle.bearing.proofs.drop_one.Statement.{statement}
-use Rattle.bearing.proofs.drop_one.Tie as tie
+use Rattle.tallies.proofs.drop_one.Statement.{statement}
+use Rattle.tallies.proofs.drop_one.Tie as tie
 
 wrapping-add-u64-requires : tie.Need-wrapping-add-u64-requires
 wrapping-add-u64-requires c κs = search needs

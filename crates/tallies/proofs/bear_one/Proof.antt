@@ -1,8 +1,8 @@
 -- `bear_one` meets its contract: the callees' answers, put together.
-use Rattle.bearing.specs.Birth.{bornOne}
+use Rattle.tallies.specs.Tallies.{bornOne}
 use borrow.Author.Needs.{needs}
-use Rattle.bearing.proofs.bear_one.Statement.{statement}
-use Rattle.bearing.proofs.bear_one.Tie as tie
+use Rattle.tallies.proofs.bear_one.Statement.{statement}
+use Rattle.tallies.proofs.bear_one.Tie as tie
 
 wrapping-add-u64-requires : tie.Need-wrapping-add-u64-requires
 wrapping-add-u64-requires c κs = search needs

@@ -1,9 +1,9 @@
 -- `word` meets its contract by computation.
 use mathlib.Core.Path.{refl}
-use Rattle.bearing.specs.Birth.{wordOf}
+use Rattle.tallies.specs.Tallies.{wordOf}
 use borrow.Author.Needs.{needs}
-use Rattle.bearing.proofs.word.Statement.{statement}
-use Rattle.bearing.proofs.word.Tie as tie
+use Rattle.tallies.proofs.word.Statement.{statement}
+use Rattle.tallies.proofs.word.Tie as tie
 
 mul-result : tie.Need-mul-result
 mul-result c = search needs
