@@ -1,15 +1,13 @@
 -- One birth, line by line as the Rust's `birth`. 256 is no source. Definitions only.
-use Prim.Native.Nat.{ℕ, _+_, _*_}
+use Prim.Native.Nat.{ℕ}
 use mathlib.Core.Bool.{Bool, false}
-use lib.Bits.{bitXor}
 use lib.Dec.{eqb, ltb}
 use lib.ListN.{getD, set}
-use lib.Ieee.{binary32, toBits}
 use Rattle.lists.specs.Pick.{pick}
-use Rattle.floats.specs.Word.{rotated}
-use Rattle.draws.specs.Draws.{mixOf, randomOf}
-use Rattle.births.specs.declared.Voice.{Voice}
-use Rattle.births.specs.Births.{freeVoiceOf, sourceVoiceOf, newbornOf}
+use Rattle.draws.specs.Draws.{randomOf}
+use Rattle.voices.specs.declared.Voice.{Voice}
+use Rattle.voices.specs.Voices.{freeVoiceOf, sourceVoiceOf}
+use Rattle.births.specs.Births.{newbornOf}
 use Rattle.pool.specs.declared.Particle.{Particle}
 use Rattle.pool.specs.Pool.{freePlace}
 use Rattle.sources.specs.Sources.{chosenOf}
@@ -17,6 +15,7 @@ use Rattle.state.specs.declared.Engine.{Engine}
 use Rattle.state.specs.declared.Next.{Next}
 use Rattle.state.specs.declared.Tally.{Tally}
 use Rattle.state.specs.State.{grown, withNext, withParticles, withTally, pastSource}
+use Rattle.tallies.specs.Tallies.{droppedOne, bornOne}
 
 -- ---- the source: the trigger's own, or by the draw of stream 1
 unfoldable pub chosenFor : Engine → ℕ → ℕ → ℕ
@@ -32,34 +31,10 @@ withLast n slot =
       «note_input_present» = n .«note_input_present»;
     }
 
--- ---- the counters
--- self.dropped += 1
-abbrev pub droppedOne : Tally → Tally
-droppedOne t = record { attempts = t .attempts; births = t .births; dropped = grown (t .dropped); «decision_hash» = t .«decision_hash» }
-
+-- ---- the attempts
 -- self.attempts += 1
 abbrev pub triedOne : Tally → Tally
 triedOne t = record { attempts = grown (t .attempts); births = t .births; dropped = t .dropped; «decision_hash» = t .«decision_hash» }
-
--- u64::from_le_bytes([p[0], p[1], p[2], 0, ..])
-unfoldable pub wordOf : ℕ → ℕ → ℕ → ℕ
-wordOf a b c = a + b * 256 + c * 65536
-
--- mix(self.decision_hash ^ index ^ self.sample.rotate_left(19) ^ frequency_hz.to_bits() ^ partials)
-unfoldable pub hashOf : ℕ → ℕ → ℕ → Particle → ℕ
-hashOf before index sample p =
-    let word = wordOf (getD (p .partials) 0 0) (getD (p .partials) 1 0) (getD (p .partials) 2 0) in
-    mixOf (bitXor (bitXor (bitXor (bitXor before index) (rotated sample 19)) (toBits binary32 (p .«frequency_hz»))) word)
-
--- self.births += 1; self.decision_hash = ..
-unfoldable pub bornOne : Tally → ℕ → ℕ → Particle → Tally
-bornOne t index sample p =
-    record {
-      attempts = t .attempts;
-      births = grown (t .births);
-      dropped = t .dropped;
-      «decision_hash» = hashOf (t .«decision_hash») index sample p;
-    }
 
 -- ---- the new particle
 unfoldable pub voiceFor : Engine → ℕ → ℕ → Voice

@@ -1,11 +1,11 @@
 // One birth: its source, the attempt, the place.
 ghost use mathlib.Core.Path.{_≡_};
-ghost use Rattle.bearing.specs.Birth.{withLast, droppedOne, triedOne, wordOf, hashOf, bornOne, voiceFor, newbornFor, admittedOf, isBarred, attemptedOf, chosenFor, bornOf};
-use births::Voice;
+ghost use Rattle.bearing.specs.Birth.{withLast, triedOne, voiceFor, newbornFor, admittedOf, isBarred, attemptedOf, chosenFor, bornOf};
 use pool::Particle;
 use state::Engine;
 use state::Next;
 use state::Tally;
+use voices::Voice;
 
 pub const MAX_BIRTH_ATTEMPTS: u64 = 64;
 
@@ -14,15 +14,6 @@ fn with_last(next: Next, slot: usize) -> Next
 {
     let mut out = next;
     out.last_source = slot;
-    out
-}
-
-fn drop_one(tally: Tally) -> Tally
-    ensures { λ r. ⌜ r ≡ droppedOne tally ⌝ }
-{
-    let dropped = std::num::wrapping_add_u64(tally.dropped, 1);
-    let mut out = tally;
-    out.dropped = dropped;
     out
 }
 
@@ -35,43 +26,16 @@ fn try_one(tally: Tally) -> Tally
     out
 }
 
-fn word(a: u8, b: u8, c: u8) -> u64
-    ensures { λ r. ⌜ r ≡ wordOf a b c ⌝ }
-{
-    a as u64 + b as u64 * 256 + c as u64 * 65536
-}
-
-fn hash(before: u64, index: u64, sample: u64, p: Particle) -> u64
-    ensures { λ r. ⌜ r ≡ hashOf before index sample p ⌝ }
-{
-    let partials = p.partials;
-    let turned = floats::rotate_left(sample, 19);
-    let bits = floats::bits32(p.frequency_hz) as u64;
-    let word = word(partials[0], partials[1], partials[2]);
-    draws::mix(before ^ index ^ turned ^ bits ^ word)
-}
-
-fn bear_one(tally: Tally, index: u64, sample: u64, p: Particle) -> Tally
-    ensures { λ r. ⌜ r ≡ bornOne tally index sample p ⌝ }
-{
-    let births = std::num::wrapping_add_u64(tally.births, 1);
-    let decision_hash = hash(tally.decision_hash, index, sample, p);
-    let mut out = tally;
-    out.births = births;
-    out.decision_hash = decision_hash;
-    out
-}
-
 fn voice(engine: Engine, index: u64, slot: usize) -> Voice
     ensures { λ r. ⌜ r ≡ voiceFor engine index slot ⌝ }
 {
     if slot < 256 {
         let source = engine.sources[slot];
-        return births::source_voice(slot, source);
+        return voices::source_voice(slot, source);
     }
     let config = engine.config;
     let shape = config.shape;
-    births::free_voice(
+    voices::free_voice(
         shape,
         index,
         engine.clock.phase,
@@ -106,10 +70,10 @@ fn admit(engine: Engine, index: u64, slot: usize) -> Engine
     if place < 64 {
         let p = newborn(engine, index, slot);
         out.particles[place] = p;
-        out.tally = bear_one(tally, index, engine.clock.sample, p);
+        out.tally = tallies::bear_one(tally, index, engine.clock.sample, p);
         return out;
     }
-    out.tally = drop_one(tally);
+    out.tally = tallies::drop_one(tally);
     out
 }
 
@@ -130,7 +94,7 @@ fn attempt(engine: Engine, index: u64, slot: usize) -> Engine
     let tally = engine.tally;
     let mut out = engine;
     if tally.attempts == MAX_BIRTH_ATTEMPTS {
-        out.tally = drop_one(tally);
+        out.tally = tallies::drop_one(tally);
         return out;
     }
     out.tally = try_one(tally);

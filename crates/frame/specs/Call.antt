@@ -2,7 +2,7 @@
 use mathlib.Core.List.{List, map}
 use lib.Ieee.{Float}
 use Rattle.lists.specs.Pick.{pick}
-use Rattle.births.specs.Births.{maxHzOf}
+use Rattle.voices.specs.Voices.{maxHzOf}
 use Rattle.state.specs.declared.Engine.{Engine}
 use Rattle.state.specs.declared.Tally.{Tally}
 use Rattle.state.specs.State.{withParticles, withTally}
@@ -12,7 +12,10 @@ use Rattle.refusals.specs.declared.Refusal.the-variants.{Seconds}
 use Rattle.windows.specs.declared.Window.{Window}
 use Rattle.windows.specs.Opening.{emptyFrame}
 use Rattle.frame.specs.declared.Framed.{Framed}
-use Rattle.frame.specs.Frame.{sweepOne, shownOf, windowsOf, activityOf, accepted}
+use Rattle.places.specs.Freed.{sweepOne}
+use Rattle.places.specs.Shown.{shownOf}
+use Rattle.partials.specs.Windows.{windowsOf}
+use Rattle.frame.specs.Frame.{activityOf, accepted}
 
 -- if age >= p.lifetime || retirement >= 1.0 { *p = Particle::default(); }, at each place
 unfoldable pub heldOf : Engine → List Particle

@@ -45,8 +45,9 @@ use Rattle.settings.specs.Envelope.{sprinkleOf, cloudOf, cloudAttackOf, byShape
 use Rattle.settings.specs.Mending.{one, maxHop, lawfulRate, finiteOr, heldTo, mendedOf}
 use Rattle.settings_laws.proofs.Again.{finite-or, or-fits}
 use Rattle.settings_laws.proofs.Lifetimes.{Formed, envelope-sound}
-use Rattle.births.specs.declared.Voice.{Voice}
-use Rattle.births.specs.Births.{rate32, maxHzOf, registerBy, widthOf, openingOf, strengthOf, newbornOf}
+use Rattle.voices.specs.declared.Voice.{Voice}
+use Rattle.voices.specs.Voices.{rate32, maxHzOf}
+use Rattle.births.specs.Births.{registerBy, widthOf, openingOf, strengthOf, newbornOf}
 use Rattle.state.specs.Make.{partialLogs}
 use Rattle.frame_laws.proofs.Strengths.{Rated}
 use Rattle.frame_laws.proofs.Shapes.{Logs, log-mag}

@@ -11,9 +11,10 @@ use Rattle.lists.specs.Pick.{pick}
 use Rattle.lists.specs.Table.{table-at}
 use Rattle.pool.specs.declared.Particle.{Particle}
 use Rattle.windows.specs.Opening.{none}
-use Rattle.frame.specs.Frame.{nothing, shownOf, windowOf, windowAt, windowsOf, pastShown}
+use Rattle.places.specs.Shown.{nothing, shownOf}
+use Rattle.partials.specs.Windows.{windowOf, windowAt, windowsOf, pastShown}
 use Rattle.lists.specs.Copied.{length-map, getD-map}
-use Rattle.frame.specs.declared.Shown.{Shown}
+use Rattle.places.specs.declared.Shown.{Shown}
 use Rattle.windows.specs.declared.Window.{Window}
 
 module _ (logs : List Float) (binHz maxHz : Float) (sample : ℕ) (rate : Float) (particles : List Particle) (long : length particles ≡ 64) where

@@ -32,8 +32,9 @@ use Rattle.elementary.proofs.LogExact.{log2-fits}
 use Rattle.elementary.proofs.LogRises.{least, most, log2-within}
 use Rattle.pool.specs.declared.Particle.{Particle}
 use Rattle.windows.specs.Opening.{nil, one}
-use Rattle.frame.specs.declared.Shown.{Shown}
-use Rattle.frame.specs.Frame.{rootLogOf, centerOf, radiusOf}
+use Rattle.places.specs.declared.Shown.{Shown}
+use Rattle.places.specs.Shown.{rootLogOf}
+use Rattle.partials.specs.Windows.{centerOf, radiusOf}
 use Rattle.floats_laws.proofs.Unit.{i, i-fits, nought-fits, one-and-nothing, to-nought, from-round}
 
 -- ---- the centre

@@ -27,7 +27,8 @@ use Rattle.pool.specs.declared.Retired.{Retired}
 use Rattle.pool.specs.declared.Retired.the-variants.{Not, At}
 use Rattle.windows.specs.Opening.{taperOf, cubic}
 use Rattle.windows_laws.proofs.Tapered.{taper-finite, taper-most}
-use Rattle.frame.specs.Frame.{elapsedOf, secondsOf, retirementOf, powerOf, envelopeOf, passedOf, fadeOf, amplitudeOf}
+use Rattle.places.specs.Freed.{elapsedOf, secondsOf, retirementOf}
+use Rattle.places.specs.Shown.{powerOf, envelopeOf, passedOf, fadeOf, amplitudeOf}
 use Rattle.floats_laws.proofs.Unit.{i, nought-fits, Unit, product-unit}
 
 -- what the amplitude needs of a particle; a birth gives it

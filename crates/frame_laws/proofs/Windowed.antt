@@ -18,8 +18,9 @@ use Rattle.elementary_laws.proofs.PowerValues.{power-fits}
 use Rattle.pool.specs.declared.Particle.{Particle}
 use Rattle.windows.specs.declared.Window.{Window}
 use Rattle.windows.specs.Opening.{none}
-use Rattle.frame.specs.declared.Shown.{Shown}
-use Rattle.frame.specs.Frame.{rootLogOf, amplitudeOf, nothing, shownOf, centerOf, placedOf, windowOf}
+use Rattle.places.specs.declared.Shown.{Shown}
+use Rattle.places.specs.Shown.{rootLogOf, amplitudeOf, nothing, shownOf}
+use Rattle.partials.specs.Windows.{centerOf, placedOf, windowOf}
 use Rattle.floats_laws.proofs.Unit.{Unit}
 use Rattle.frame_laws.proofs.Strengths.{Timed, Rated, amplitude-unit}
 use Rattle.frame_laws.proofs.Shapes.{Pitched, Logs, root-mag, centre-mag, radius-above, radius-finite}

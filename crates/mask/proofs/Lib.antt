@@ -1,6 +1,3 @@
+pub mod Cases
 pub mod Closed
-pub mod Halves
-pub mod Opens
-pub mod Ordered
-pub mod Raising
-pub mod Ranges
+pub mod Shaped

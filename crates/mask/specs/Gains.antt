@@ -1,42 +1,24 @@
 -- The gains of a mask, line by line as the Rust's `Mask::gains`, with 01's refusals 5 and 6 in this order. Definitions only.
 use Prim.Native.Nat.{ℕ}
-use mathlib.Core.Bool.{Bool, not, cond, _&&_}
+use mathlib.Core.Bool.{Bool, _||_}
 use mathlib.Core.List.{List}
-use lib.Dec.{eqb, ltb}
-use lib.ListN.{length, getD}
-use lib.Ieee.{Float, nan, neg, lt, le, eq}
+use lib.Dec.{eqb}
+use lib.ListN.{length}
+use lib.Ieee.{Float, neg, le, eq}
 use Rattle.lists.specs.Pick.{pick}
 use Rattle.lists.specs.Table.{table}
-use Rattle.lists.specs.Walk.{walk}
-use Rattle.floats.specs.Names.{f32, add32, sub32, mul32}
-use Rattle.floats.specs.Choose.{max, clamp}
+use Rattle.floats.specs.Names.{f32, sub32, mul32}
+use Rattle.floats.specs.Choose.{clamp}
 use Rattle.powers.specs.Power.{dbToGain}
 use Rattle.refusals.specs.declared.Answer.{Answer}
 use Rattle.refusals.specs.declared.Answer.the-variants.{Taken, Refused}
 use Rattle.refusals.specs.declared.Refusal.the-variants.{Lengths, Logs}
 use Rattle.windows.specs.declared.Window.{Window}
 use Rattle.windows.specs.declared.Frame.{Frame}
+use Rattle.windows.specs.Opening.{nil, one}
 use Rattle.bin_tables.specs.Logs.{lawfulLogs}
-use Rattle.windows.specs.Opening.{nil, one, opennessOf}
+use Rattle.openings.specs.Opened.{openAt}
 
--- ---- 01, Mask: a window touches bins from 1 whose log lies from centre - radius to centre + radius, as rounded f32
-unfoldable pub touches : Window → Float → Bool
-touches w log =
-    not (lt log (sub32 (w .«center_log2_hz») (w .«radius_octaves»)))
-    && le log (add32 (w .«center_log2_hz») (w .«radius_octaves»))
-
--- if w.amplitude <= 0.0 { continue; } .. *o = o.max(w.openness(*log));
-unfoldable pub raisedOf : ℕ → Float → Window → Float → Float
-raisedOf bin log w o = cond (ltb 0 bin && (not (le (w .amplitude) nil) && touches w log)) (max o (opennessOf w log)) o
-
--- for w in &frame.windows, at one bin
-abbrev pub raising : ℕ → Float → ℕ → Window → Float → Float
-raising bin log j w o = raisedOf bin log w o
-
-unfoldable pub openAt : List Window → List Float → ℕ → Float
-openAt ws logs bin = walk (raising bin (getD logs bin nan)) 0 ws nil
-
--- ---- the gains
 -- -depth_db.clamp(0.0, 60.0) * frame.activity
 unfoldable pub levelOf : Float → Float → Float
 levelOf depth activity = mul32 (neg (clamp depth nil (f32 0x42700000))) activity
@@ -44,6 +26,22 @@ levelOf depth activity = mul32 (neg (clamp depth nil (f32 0x42700000))) activity
 -- db_to_gain(level * (1.0 - openness))
 unfoldable pub gainOf : Float → Float → Float
 gainOf level o = dbToGain (mul32 level (sub32 one o))
+
+-- if depth_db <= 0.0 || frame.activity == 0.0
+unfoldable pub quietOf : Float → Float → Bool
+quietOf depth activity = le depth nil || eq activity nil
+
+-- output.fill(1.0), under logs that refusal 6 lets pass
+unfoldable pub onesOf : List Float → List Float → Answer × List Float
+onesOf logs output = pick (lawfulLogs logs) (Taken, table (length output) (λ i. one)) (Refused Logs, output)
+
+-- the openness of each bin and its gain, under such logs
+unfoldable pub shapedOf : List Window → Float → List Float → List Float → List Float → Answer × List Float × List Float
+shapedOf ws level logs scratch output =
+    let n = length output in
+    pick (lawfulLogs logs)
+    (Taken, table n (openAt ws logs), table n (λ i. gainOf level (openAt ws logs i)))
+    (Refused Logs, scratch, output)
 
 -- the answer, and then scratch and output afterwards
 unfoldable pub gainsOf : Frame → Float → List Float → List Float → List Float → Answer × List Float × List Float

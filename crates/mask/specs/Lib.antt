@@ -1,3 +1,1 @@
 pub mod Gains
-pub mod Search
-pub mod Walk

@@ -1,24 +1,14 @@
 // The gains of the bins under a frame.
 ghost use mathlib.Core.Path.{_≡_};
-ghost use mathlib.Core.Bool.{true};
 ghost use lib.ListN.{length, getD};
 ghost use lib.Ieee.{nan};
 ghost use Rattle.lists.specs.Table.{table};
-ghost use Rattle.windows.specs.Opening.{nil};
-ghost use Rattle.mask.specs.Gains.{openAt, levelOf, gainOf, gainsOf};
-ghost use Rattle.bin_tables.specs.Logs.{lawfulLogs};
+ghost use Rattle.windows.specs.Opening.{nil, one};
+ghost use Rattle.mask.specs.Gains.{levelOf, gainOf, quietOf, onesOf, shapedOf, gainsOf};
 use refusals::Answer;
 use refusals::Refusal;
 use windows::Frame;
 use windows::Window;
-
-fn fill(slice: &mut [f32], x: f32)
-    ensures { λ _. ⌜ now (slice .exit) ≡ table (length (now (slice .entry))) (λ i. x) ⌝ }
-{
-    for i in 0..slice.len() {
-        slice[i] = x;
-    }
-}
 
 // What a shut bin is brought to, in decibels.
 fn level(depth_db: f32, activity: f32) -> f32
@@ -54,13 +44,52 @@ fn finish(level: f32, shut: f32, scratch: &[f32], output: &mut [f32])
 }
 
 // The openness of each bin, and from it the gains.
-fn shape(windows: [Window; 192], level: f32, logs: &[f32], scratch: &mut [f32], output: &mut [f32])
-    requires { ⌜ (length (now output) ≡ length (now scratch)) × (length (now output) ≡ length (now logs)) × (lawfulLogs (now logs) ≡ true) ⌝ }
-    ensures { λ _. ⌜ (now (scratch .exit) ≡ table (length (now (output .entry))) (openAt windows (now (logs .entry)))) × (now (output .exit) ≡ table (length (now (output .entry))) (λ i. gainOf level (openAt windows (now (logs .entry)) i))) ⌝ }
+fn shape(
+    windows: [Window; 192],
+    level: f32,
+    logs: &[f32],
+    scratch: &mut [f32],
+    output: &mut [f32],
+) -> Answer
+    requires { ⌜ (length (now output) ≡ length (now scratch)) × (length (now output) ≡ length (now logs)) ⌝ }
+    ensures { λ r. ⌜ (r, now (scratch .exit), now (output .exit)) ≡ shapedOf windows level (now (logs .entry)) (now (scratch .entry)) (now (output .entry)) ⌝ }
 {
-    fill(scratch, 0.0);
-    crate::touch::walk(windows, logs, scratch);
-    finish(level, gain_at(level, 0.0), scratch, output);
+    match openings::open_bins(windows, logs, scratch) {
+        Answer::Taken => {
+            finish(level, gain_at(level, 0.0), scratch, output);
+            Answer::Taken
+        }
+        Answer::Refused(refusal) => Answer::Refused(refusal),
+    }
+}
+
+// Nothing to attenuate.
+fn quiet(depth_db: f32, activity: f32) -> bool
+    ensures { λ r. ⌜ r ≡ quietOf «depth_db» activity ⌝ }
+{
+    if depth_db <= 0.0 {
+        return true;
+    }
+    activity == 0.0
+}
+
+fn fill_ones(output: &mut [f32])
+    ensures { λ _. ⌜ now (output .exit) ≡ table (length (now (output .entry))) (λ i. one) ⌝ }
+{
+    for i in 0..output.len() {
+        output[i] = 1.0;
+    }
+}
+
+// Refusal 6 comes before the ones.
+fn ones(logs: &[f32], output: &mut [f32]) -> Answer
+    ensures { λ r. ⌜ (r, now (output .exit)) ≡ onesOf (now (logs .entry)) (now (output .entry)) ⌝ }
+{
+    if bin_tables::lawful(logs) {
+        fill_ones(output);
+        return Answer::Taken;
+    }
+    Answer::Refused(Refusal::Logs)
 }
 
 // The Rust's `Mask::gains`, with its panics as refusals. Scratch holds the openness of each bin.
@@ -79,24 +108,15 @@ pub fn gains(
     if output.len() != logs.len() {
         return Answer::Refused(Refusal::Lengths);
     }
-    if bin_tables::lawful(logs) {
-        if depth_db <= 0.0 {
-            fill(output, 1.0);
-            return Answer::Taken;
-        }
-        if frame.activity == 0.0 {
-            fill(output, 1.0);
-            return Answer::Taken;
-        }
-        let windows = frame.windows;
-        shape(
-            windows,
-            level(depth_db, frame.activity),
-            logs,
-            scratch,
-            output,
-        );
-        return Answer::Taken;
+    if quiet(depth_db, frame.activity) {
+        return ones(logs, output);
     }
-    Answer::Refused(Refusal::Logs)
+    let windows = frame.windows;
+    shape(
+        windows,
+        level(depth_db, frame.activity),
+        logs,
+        scratch,
+        output,
+    )
 }

@@ -25,9 +25,9 @@ use Rattle.floats_laws.proofs.Units.{one as i, zero-fits, one-fits, unit}
 use Rattle.windows.specs.declared.Window.{Window}
 use Rattle.windows.specs.Opening.{nil, one, taperOf, insideOf, opennessOf, opening, openedBy}
 use Rattle.windows_laws.proofs.Tapered.{taper-finite}
-use Rattle.mask.specs.Gains.{touches, raisedOf, raising, openAt}
+use Rattle.openings.specs.Opened.{touches, raisedOf, raising, openAt}
 use Rattle.bin_tables.specs.Logs.{lawfulLogs}
-use Rattle.mask.proofs.Ordered.{all-finite}
+use Rattle.openings.proofs.Ordered.{all-finite}
 use Rattle.mask_laws.proofs.Shut.{shut}
 
 -- a window of floats that f32 holds, all finite

@@ -22,7 +22,7 @@ use Rattle.floats_laws.proofs.Gap.{gap-below, gap-above, div-one, one-less}
 use Rattle.floats_laws.proofs.Units.{one as i, zero-fits}
 use Rattle.windows.specs.declared.Window.{Window}
 use Rattle.windows.specs.Opening.{nil, one, cubic, taperOf, insideOf, opennessOf}
-use Rattle.mask.specs.Gains.{touches}
+use Rattle.openings.specs.Opened.{touches}
 
 -- ---- at or below 0 the taper is 0
 cubic-zero : (s : Bool) → cubic (fin s 0 (pos 0)) ≡ nought

@@ -82,7 +82,7 @@ pub extern "C" fn rk_probe_attenuation_db(
 pub extern "C" fn rk_probe_bin_table(sample_rate: f32, fft_size: u64, table: &mut [f32]) -> u64
     ensures { λ r. ⌜ (r, now (table .exit)) ≡ numbered (preparedOf «sample_rate» «fft_size» (now (table .entry))) ⌝ }
 {
-    refusals::answer_number(mask::bin_table(sample_rate, fft_size as usize, table))
+    refusals::answer_number(bin_tables::bin_table(sample_rate, fft_size as usize, table))
 }
 
 #[no_mangle]

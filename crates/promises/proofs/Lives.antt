@@ -21,7 +21,7 @@ use Rattle.pool.specs.Pool.{freeParticle, firstOf, retiredOf, retireOne, retire
 use Rattle.state.specs.declared.Engine.{Engine}
 use Rattle.bearing.specs.Birth.{chosenFor, voiceFor, newbornFor, isBarred, admittedOf, attemptedOf, bornOf}
 use Rattle.changes.specs.Changes.{retiredAll}
-use Rattle.frame.specs.Frame.{secondsOf, retirementOf, dueOf, sweepOne}
+use Rattle.places.specs.Freed.{secondsOf, retirementOf, dueOf, sweepOne}
 use Rattle.frame.specs.Call.{heldOf, renewedOf}
 use Rattle.runs.specs.Acts.{Act, birth, retire, retireBound, retune, frame, source, streams, next, clock, weights, settings, act}
 use Rattle.lists.specs.Every.{in-case}

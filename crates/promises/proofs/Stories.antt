@@ -18,8 +18,9 @@ use Rattle.pool.specs.declared.Retired.the-variants.{Not, At}
 use Rattle.pool.specs.Pool.{freeParticle, isFree, freePlace}
 use Rattle.state.specs.declared.Engine.{Engine}
 use Rattle.state.specs.State.{grown, withNext, withTally}
-use Rattle.bearing.specs.Birth.{chosenFor, withLast, droppedOne, triedOne, bornOne, voiceFor, newbornFor, settledAt, isBarred, admittedOf, attemptedOf, bornOf}
-use Rattle.frame.specs.Frame.{sweepOne}
+use Rattle.tallies.specs.Tallies.{droppedOne, bornOne}
+use Rattle.bearing.specs.Birth.{chosenFor, withLast, triedOne, voiceFor, newbornFor, settledAt, isBarred, admittedOf, attemptedOf, bornOf}
+use Rattle.places.specs.Freed.{sweepOne}
 use Rattle.runs.specs.Acts.{Act, birth, retire, retireBound, retune, frame, source, streams, next, clock, weights, settings, act, perform}
 use Rattle.promises.specs.Life.{place, Held, permitted, newborn, Life, lifeOf, Fate, living, freed, due, first, retiredAt, told, onward, story}
 use Rattle.promises.specs.Demand3.{Lowest, Born, FirstDue}

@@ -15,7 +15,7 @@ use Rattle.pool.specs.declared.Retired.the-variants.{Not, At}
 use Rattle.pool.specs.Pool.{freeParticle}
 use Rattle.state.specs.declared.Engine.{Engine}
 use Rattle.bearing.specs.Birth.{chosenFor, newbornFor}
-use Rattle.frame.specs.Frame.{elapsedOf}
+use Rattle.places.specs.Freed.{elapsedOf}
 use Rattle.runs.specs.Acts.{Act, birth, retire, retireBound, retune, frame, source, streams, next, clock, weights, settings, act}
 
 -- what stands at place i

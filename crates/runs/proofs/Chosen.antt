@@ -17,7 +17,8 @@ use Rattle.state.specs.declared.Engine.{Engine}
 use Rattle.state.specs.declared.Next.{Next}
 use Rattle.state.specs.declared.Tally.{Tally}
 use Rattle.state.specs.State.{grown, withNext, withParticles, withTally, pastSource}
-use Rattle.bearing.specs.Birth.{chosenFor, withLast, triedOne, bornOne, newbornFor, admittedOf, attemptedOf, bornOf}
+use Rattle.tallies.specs.Tallies.{bornOne}
+use Rattle.bearing.specs.Birth.{chosenFor, withLast, triedOne, newbornFor, admittedOf, attemptedOf, bornOf}
 use Rattle.lists.specs.Every.{Every, every-set, in-case}
 use Rattle.runs.proofs.Sound.{Sound, Held, Sounding, engine-newborn}
 

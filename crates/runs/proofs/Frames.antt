@@ -8,14 +8,17 @@ use lib.ListN.{length, getD, length-map}
 use lib.Ieee.{Float, binary32, fits, ofBits}
 use Rattle.lists.specs.Pick.{either, by-case}
 use Rattle.floats_laws.proofs.Unit.{Unit, nought-unit}
-use Rattle.births.specs.Births.{maxHzOf}
+use Rattle.voices.specs.Voices.{maxHzOf}
 use Rattle.pool.specs.declared.Particle.{Particle}
 use Rattle.pool.specs.Pool.{freeParticle}
 use Rattle.windows.specs.declared.Window.{Window}
 use Rattle.windows.specs.Opening.{none, emptyFrame}
 use Rattle.frame.specs.declared.Framed.{Framed}
-use Rattle.frame.specs.declared.Shown.{Shown}
-use Rattle.frame.specs.Frame.{sweepOne, shownOf, windowOf, accepted}
+use Rattle.places.specs.declared.Shown.{Shown}
+use Rattle.places.specs.Freed.{sweepOne}
+use Rattle.places.specs.Shown.{shownOf}
+use Rattle.partials.specs.Windows.{windowOf}
+use Rattle.frame.specs.Frame.{accepted}
 use Rattle.frame.specs.Call.{heldOf, windowsBy, renewedOf, takenOf, refusedOf, framedOf}
 use Rattle.frame_laws.proofs.Background.{activity-unit}
 use Rattle.frame_laws.proofs.Newborn.{lawful-rated, engine-logs}

@@ -10,8 +10,9 @@ use lib.ListN.{length, getD}
 use lib.Ieee.{Float, binary32, fits, lt, le}
 use Rattle.lists.specs.Pick.{either, by-case}
 use Rattle.floats_laws.proofs.Rising.{nought}
-use Rattle.births.specs.declared.Voice.{Voice}
-use Rattle.births.specs.Births.{rate32, partialsBy, freeVoiceOf, sourceVoiceOf, newbornOf}
+use Rattle.voices.specs.declared.Voice.{Voice}
+use Rattle.voices.specs.Voices.{rate32, freeVoiceOf, sourceVoiceOf}
+use Rattle.births.specs.Births.{partialsBy, newbornOf}
 use Rattle.pitch_laws.proofs.Harmonics.{Picks, picks-lawful}
 use Rattle.pool.specs.declared.Particle.{Particle}
 use Rattle.pool.specs.declared.Retired.{Retired}

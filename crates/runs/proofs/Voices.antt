@@ -32,7 +32,7 @@ use Rattle.settings.specs.declared.Shape.the-variants.{Sprinkle, Cloud}
 use Rattle.settings.specs.Mending.{lawfulRate}
 use Rattle.sources.specs.declared.Source.{Source}
 use Rattle.sources.specs.Sources.{isPitched, isEligible}
-use Rattle.births.specs.Births.{maxHzOf, freeRootOf, freeHzOf, freeVoiceOf, sourceVoiceOf}
+use Rattle.voices.specs.Voices.{maxHzOf, freeRootOf, freeHzOf, freeVoiceOf, sourceVoiceOf}
 use Rattle.frame_laws.proofs.Newborn.{Voiced}
 use Rattle.floats_laws.proofs.Fitting.{own-convert}
 

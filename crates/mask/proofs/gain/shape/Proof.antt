@@ -1,28 +1,23 @@
--- `shape` meets its contract: the openness by all windows, and the gains from it.
+-- `shape` meets its contract: the gains from what was opened, or the refusal handed on.
 use borrow.Author.Needs.{needs}
-use Prim.Native.Nat.{ℕ}
-use mathlib.Core.Path.{sym, ap, _∙_}
-use lib.Ieee.{nan}
-use Rattle.lists.specs.Table.{table, table-over}
-use Rattle.windows.specs.Opening.{nil}
-use Rattle.mask.specs.Gains.{openAt, gainOf}
-use Rattle.mask.proofs.Ordered.{sorted}
+use Rattle.mask.proofs.Shaped.{shaped-taken, shaped-refused}
 use Rattle.mask.proofs.gain.shape.Statement.{statement}
 use Rattle.mask.proofs.gain.shape.Tie as tie
 
-fill-requires : tie.Need-fill-requires
-fill-requires c κs = search needs
+open-bins-requires : tie.Need-open-bins-requires
+open-bins-requires c κs = search needs
 
-walk-requires : tie.Need-walk-requires
-walk-requires c κs =
-    let p = c .before .before .before .before .before .before .before .before .pre in
-    (c .before .before .before .fill .ensures ∙ ap (λ (n : ℕ). table n (λ i. nil)) (sym (p .0) ∙ p .1), sorted _ (c .before .before .before .before .before .before .before .shared-slice-known .given) (p .2))
+enum-told : tie.Need-enum-told
+enum-told c = search needs
 
 gain-at-requires : tie.Need-gain-at-requires
 gain-at-requires c κs = search needs
 
 finish-requires : tie.Need-finish-requires
 finish-requires c κs = search needs
+
+enum-known-refusal : tie.Need-enum-known-refusal
+enum-known-refusal c = search needs
 
 same-length : tie.Need-same-length
 same-length c = search needs
@@ -32,18 +27,30 @@ same-length-2 c = search needs
 
 returns : tie.Need-returns
 returns c =
-    let s = c .before .before .before .before .before .before .before .before .before .before .before .before .before .before .before .before .before in
-    let e = c .before .before .before .before .before .before .before .before .walk .ensures ∙ ap (λ (n : ℕ). table n (openAt (s .args .windows) (s .args .logs .now))) (sym (s .pre .1)) in
-    (e, table-over (gainOf (s .args .level)) (openAt (s .args .windows) (s .args .logs .now)) _ nan nan _ _ e (c .before .before .finish .ensures))
+    let o = c .before .before .before .before .before .before .before .before .before .before in
+    let s = o .before .before .before .before .before in
+    shaped-taken _ _ _ _ _ (s .pre .0) (s .pre .1) _ _ (o .open-bins .ensures) _ (c .before .before .before .before .before .before .enum-told .given .1) (c .before .before .finish .ensures)
+
+same-length-3 : tie.Need-same-length-3
+same-length-3 c = search needs
+
+returns-2 : tie.Need-returns-2
+returns-2 c =
+    let o = c .before .before .before .before .before in
+    let s = o .before .before .before .before .before in
+    shaped-refused _ _ _ _ _ (s .pre .0) (s .pre .1) _ _ (o .open-bins .ensures) _ (c .before .refusal .given .1)
 
 pub shape-spec : {M : Type 1} → statement M
 shape-spec =
     tie.close
     (tie.spec
-    fill-requires
-    walk-requires
+    open-bins-requires
+    enum-told
     gain-at-requires
     finish-requires
+    enum-known-refusal
     same-length
     same-length-2
-    returns)
+    returns
+    same-length-3
+    returns-2)

@@ -1,0 +1,3 @@
+pub mod Opened
+pub mod Search
+pub mod Walk

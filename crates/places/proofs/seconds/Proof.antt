@@ -1,0 +1,25 @@
+-- `seconds` meets its contract: the difference that wraps is the definition's.
+use Prim.Native.Nat.{ℕ, _+_, _%_, _^_, _<_}
+use native.Mathlib.Omega.{arith}
+use mathlib.Core.Path.{_≡_}
+use Rattle.places.specs.Freed.{elapsedOf, secondsOf}
+use borrow.Author.Needs.{needs}
+use Rattle.places.proofs.seconds.Statement.{statement}
+use Rattle.places.proofs.seconds.Tie as tie
+
+-- the number that `since` added to wraps back to `sample`
+wraps : (since sample r : ℕ) → since < 2 ^ 64 → r < 2 ^ 64 → (r + since) % 2 ^ 64 ≡ sample → r ≡ elapsedOf since sample
+wraps since sample r h l e = omega arith
+
+wrapping-sub-u64-requires : tie.Need-wrapping-sub-u64-requires
+wrapping-sub-u64-requires c κs = search needs
+
+nearest-u64-to-f64-requires : tie.Need-nearest-u64-to-f64-requires
+nearest-u64-to-f64-requires c κs = search needs
+
+returns : tie.Need-returns
+unfolding secondsOf
+returns c = rw (c .nearest-u64-to-f64 .ensures, wraps _ _ _ (search needs) (search needs) (c .before .wrapping-sub-u64 .ensures))
+
+pub seconds-spec : {M : Type 1} → statement M
+seconds-spec = tie.close (tie.spec wrapping-sub-u64-requires nearest-u64-to-f64-requires returns)

@@ -1,0 +1,132 @@
+// The places at a frame: which are freed, and what the particles in the others show.
+ghost use mathlib.Core.Path.{_≡_};
+ghost use mathlib.Core.List.{map};
+ghost use Rattle.places.specs.Freed.{secondsOf, retirementOf, dueOf, sweepOne};
+ghost use Rattle.places.specs.Shown.{powerOf, envelopeOf, amplitudeOf, nothing, shownOf};
+use pool::Particle;
+use pool::Retired;
+
+pub const RETIRE_SECONDS: f64 = 0.02;
+
+// What a particle shows: its root on the scale of octaves, and how strong and wide its windows are.
+pub struct Shown {
+    pub root_log: f32,
+    pub amplitude: f32,
+    pub width: f32,
+    pub partials: [u8; 3],
+}
+
+fn seconds(since: u64, sample: u64, rate: f64) -> f64
+    ensures { λ r. ⌜ r ≡ secondsOf since sample rate ⌝ }
+{
+    std::num::nearest_u64_to_f64(std::num::wrapping_sub_u64(sample, since)) / rate
+}
+
+fn retirement(k: Retired, sample: u64, rate: f64) -> f64
+    ensures { λ r. ⌜ r ≡ retirementOf k sample rate ⌝ }
+{
+    match k {
+        Retired::Not => 0.0,
+        Retired::At(at) => seconds(at, sample, rate) / RETIRE_SECONDS,
+    }
+}
+
+fn due(p: Particle, sample: u64, rate: f64) -> bool
+    ensures { λ r. ⌜ r ≡ dueOf sample rate p ⌝ }
+{
+    let k = p.retirement;
+    if seconds(p.birth, sample, rate) >= p.lifetime {
+        return true;
+    }
+    retirement(k, sample, rate) >= 1.0
+}
+
+fn sweep_one(p: Particle, sample: u64, rate: f64) -> Particle
+    ensures { λ r. ⌜ r ≡ sweepOne sample rate p ⌝ }
+{
+    if p.active {
+        if due(p, sample, rate) {
+            return pool::free_particle();
+        }
+    }
+    p
+}
+
+pub fn sweep(particles: [Particle; 64], sample: u64, rate: f64) -> [Particle; 64]
+    ensures { λ r. ⌜ r ≡ map (sweepOne sample rate) particles ⌝ }
+{
+    let mut out = particles;
+    for i in 0..64 {
+        let p = out[i];
+        out[i] = sweep_one(p, sample, rate);
+    }
+    out
+}
+
+fn powered(x: f32, power: u32) -> f32
+    ensures { λ r. ⌜ r ≡ powerOf x power ⌝ }
+{
+    if power == 3 {
+        return x * x * x;
+    }
+    x
+}
+
+fn envelope(x: f32, attack: f32, decay_power: u32) -> f32
+    ensures { λ r. ⌜ r ≡ envelopeOf x attack «decay_power» ⌝ }
+{
+    if x < attack {
+        return windows::taper(x / attack);
+    }
+    powered(windows::taper((1.0 - x) / (1.0 - attack)), decay_power)
+}
+
+fn amplitude(p: Particle, sample: u64, rate: f64) -> f32
+    ensures { λ r. ⌜ r ≡ amplitudeOf sample rate p ⌝ }
+{
+    let k = p.retirement;
+    let x = floats::f64_to_f32(seconds(p.birth, sample, rate) / p.lifetime);
+    let fade = floats::f64_to_f32(retirement(k, sample, rate));
+    p.strength * envelope(x, p.attack, p.decay_power) * windows::taper(1.0 - fade)
+}
+
+fn nothing_shown() -> Shown
+    ensures { λ r. ⌜ r ≡ nothing ⌝ }
+{
+    Shown {
+        root_log: 0.0,
+        amplitude: 0.0,
+        width: 0.0,
+        partials: [0u8; 3],
+    }
+}
+
+// A free place shows nothing.
+fn show(p: Particle, sample: u64, rate: f64) -> Shown
+    ensures { λ r. ⌜ r ≡ shownOf sample rate p ⌝ }
+{
+    if p.active {
+        let partials = p.partials;
+        let root_log = elementary::log2(p.frequency_hz) + p.octave;
+        let amplitude = amplitude(p, sample, rate);
+        return Shown {
+            root_log,
+            amplitude,
+            width: p.width,
+            partials,
+        };
+    }
+    nothing_shown()
+}
+
+pub fn show_all(particles: [Particle; 64], sample: u64, rate: f64) -> [Shown; 64]
+    ensures { λ r. ⌜ r ≡ map (shownOf sample rate) particles ⌝ }
+{
+    let nothing = nothing_shown();
+    let mut out = [nothing; 64];
+    for i in 0..64 {
+        let p = particles[i];
+        out[i] = show(p, sample, rate);
+    }
+    out
+}
