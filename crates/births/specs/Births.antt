@@ -10,11 +10,11 @@ use Rattle.floats.specs.Whole.{floor}
 use Rattle.draws.specs.Draws.{randomOf}
 use Rattle.elementary.specs.Log2.{log2Of}
 use Rattle.powers.specs.Power.{exp2, pow8}
-use Rattle.pitch.specs.declared.Register.{Register}
+use Rattle.octaves.specs.declared.Register.{Register}
 use Rattle.pitch.specs.Cloud.{frequencyOf}
-use Rattle.pitch.specs.Octave.{registerOf}
+use Rattle.octaves.specs.Octave.{registerOf}
 use Rattle.harmonics.specs.Partials.{partialsOf}
-use Rattle.pitch.specs.Register as register
+use Rattle.registers.specs.Register as register
 use Rattle.pool.specs.declared.Particle.{Particle}
 use Rattle.pool.specs.declared.Retired.the-variants.{Not}
 use Rattle.settings.specs.declared.Config.{Config}

@@ -32,8 +32,8 @@ use Rattle.draws.specs.Draws.{randomOf}
 use Rattle.draws.proofs.Unit.{random-in}
 use Rattle.elementary.specs.Log2.{log2Of}
 use Rattle.elementary.proofs.LogRises.{log2-within}
-use Rattle.pitch.specs.Octave.{registerOf}
-use Rattle.pitch.specs.Register as register
+use Rattle.octaves.specs.Octave.{registerOf}
+use Rattle.registers.specs.Register as register
 use Rattle.pitch_laws.proofs.Octaves.{WholeUpto, octave-whole}
 use Rattle.pitch_laws.proofs.Ranges.{strength-in}
 use Rattle.settings.specs.declared.Config.{Config}

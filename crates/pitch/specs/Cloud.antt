@@ -8,7 +8,7 @@ use Rattle.draws.specs.Draws.{randomOf}
 use Rattle.elementary.specs.Log2.{log2Of}
 use Rattle.powers.specs.Power.{exp2}
 use Rattle.elementary.specs.Sqrt.{sqrtOf}
-use Rattle.pitch.specs.Register.{nil, half, one, minHz, fullHz, lowProbability}
+use Rattle.registers.specs.Register.{nil, half, one, minHz, fullHz, lowProbability}
 
 -- 2.0 and f32::EPSILON
 abbrev pub two : Float

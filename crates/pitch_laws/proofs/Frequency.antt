@@ -32,9 +32,9 @@ use Rattle.elementary_laws.proofs.PowerRises.{exp2-like}
 use Rattle.elementary_laws.proofs.PowerValues.{exp2-exact, power-fits}
 use Rattle.elementary_laws.proofs.RootRises.{lowest, lowest-root, highest-root, sqrt-fits, sqrt-window}
 use Rattle.settings.specs.Mending.{lawfulRate}
-use Rattle.pitch.specs.Register.{nil, half, minHz, lowProbability}
+use Rattle.registers.specs.Register.{nil, half, minHz, lowProbability}
 use Rattle.pitch.specs.Cloud.{two, lowerOf, inRamp, offsetOf, frequencyOf}
-use Rattle.pitch.proofs.Logs.{log-of-min}
+use Rattle.registers.proofs.Logs.{log-of-min}
 use Rattle.pitch_laws.proofs.Ramp.{leastHz, mostHz, low, ramp, slope, mass, halved, ramp-is, slope-is, mass-is, least-log, most-log, square-is, double-is, least-divisor, looked}
 
 -- ---- the lower end and the span

@@ -20,7 +20,7 @@ use Rattle.floats_laws.proofs.Casting.{whole-rises}
 use Rattle.floats.proofs.Keys.{key, le-key, lt-key}
 use Rattle.floats.proofs.Rules.{le-right, le-trans}
 use Rattle.draws.specs.Draws.{randomOf}
-use Rattle.pitch.specs.Register.{nil, one}
+use Rattle.registers.specs.Register.{nil, one}
 use Rattle.harmonics.specs.Partials.{asFloat, countOf, keptOf, allowedOf, drawnOf, partialsOf}
 use Rattle.pitch_laws.proofs.Picks.{Drawable, Chosen, chosen-drawn, nil-gone}
 use Rattle.harmonics.proofs.Turns.{count-most, length-drawn}

@@ -29,12 +29,12 @@ use Rattle.elementary.specs.Log2.{tops, topOf, slopes, slopeOf, bends, bendOf, 
 use Rattle.floats_laws.proofs.Spans.{lt-le}
 use Rattle.elementary.proofs.LogExact.{log2-fits}
 use Rattle.elementary.proofs.LogRises.{least, most, log2-rises, log2-within}
-use Rattle.pitch.specs.Register.{nil, half, one, minHz}
+use Rattle.registers.specs.Register.{nil, half, one, minHz}
 use Rattle.harmonics.specs.Partials.{asFloat}
-use Rattle.pitch.specs.Octave.{upwardOf, lastOf, chosenFrom, chosenOf, firstOf, octavesOf, octaveOf, upperOf, lowerOf, registerOf}
+use Rattle.octaves.specs.Octave.{upwardOf, lastOf, chosenFrom, chosenOf, firstOf, octavesOf, drawnOf, octaveOf, upperOf, lowerOf, registerOf}
 use Rattle.settings.specs.declared.Direction.{Direction}
 use Rattle.pitch_laws.proofs.Harmonics.{one-is}
-use Rattle.pitch.proofs.Logs.{log-of-min, log-of-top}
+use Rattle.registers.proofs.Logs.{log-of-min, log-of-top}
 use Rattle.floats_laws.proofs.Wholes.{At, at-sum, at-difference, at-whole, at-word, at-not-below}
 
 -- ---- the range
@@ -215,7 +215,7 @@ stepped first j k c p h l g u =
 
 octave-of : (index : ℕ) (rootLog lower upper : Float) (upward : Bool) → T (fits binary32 rootLog) → Mag rootLog 149 → Mag (log2Of lower) 5 → Mag (log2Of upper) 13
     → WholeUpto 256 (octaveOf index rootLog lower upper upward)
-unfolding octaveOf firstOf octavesOf chosenOf
+unfolding octaveOf firstOf octavesOf drawnOf chosenOf
 octave-of index rootLog lower upper upward f r a b =
     let p = near-ceil (sub32 (log2Of lower) rootLog) 154 (sub-fits binary32 (log2Of lower) rootLog) (lit≤ tt) (sub-mag binary32 (log2Of lower) rootLog 5 149 (lit≤ tt) a r) in
     let q = near-floor (sub32 (log2Of upper) rootLog) 162 (sub-fits binary32 (log2Of upper) rootLog) (lit≤ tt) (sub-mag binary32 (log2Of upper) rootLog 13 149 (lit≤ tt) b r) in

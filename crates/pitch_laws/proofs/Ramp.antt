@@ -11,10 +11,10 @@ use Rattle.floats_laws.proofs.Rising.{nought}
 use Rattle.elementary.specs.Rung.{rungOf, digitsOf}
 use Rattle.elementary.specs.Log2.{tops, topOf, slopes, slopeOf, bends, bendOf, fallOf, cellOf, fractionOf, joinedOf, logOf, log2Of}
 use Rattle.elementary_laws.proofs.RootRises.{lowest, lowest-root}
-use Rattle.pitch.specs.Register.{nil, half, minHz, lowProbability}
+use Rattle.registers.specs.Register.{nil, half, minHz, lowProbability}
 use Rattle.pitch.specs.Cloud.{two, rampOf, massOf}
 use Rattle.pitch.specs.Cloud as cloud
-use Rattle.pitch.proofs.Logs.{log-of-full}
+use Rattle.registers.proofs.Logs.{log-of-full}
 
 -- 4,000 and 20,000 Hz; log2 of 20; log2 of 22; the ramp's slope and its mass
 abbrev pub leastHz : Float

@@ -13,9 +13,9 @@ use Rattle.floats_laws.proofs.Choosing.{clamp-fits, clamp-least, clamp-most}
 use Rattle.floats_laws.proofs.Numbers.{mul-number, div-number}
 use Rattle.floats_laws.proofs.Rising.{nought, add-rises-right, mul-rises}
 use Rattle.floats.proofs.Rules.{add-number, between-finite, finite-number, le-trans}
-use Rattle.pitch.proofs.Logs.{log-of-min, log-of-range}
+use Rattle.registers.proofs.Logs.{log-of-min, log-of-range}
 use Rattle.floats_laws.proofs.Products.{product-from-zero, mul-rises-right}
-use Rattle.pitch.specs.Register.{nil, one, lowOpening, lowProbability, heightOf, strengthOf, probabilityOf}
+use Rattle.registers.specs.Register.{nil, one, lowOpening, lowProbability, heightOf, strengthOf, probabilityOf}
 
 -- what is between two floats, ends included
 abbrev pub Between : Float → Float → Float → Type 0

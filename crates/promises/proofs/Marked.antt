@@ -18,7 +18,7 @@ use Rattle.draws.specs.Draws.{mixOf, keyOf, randomOf}
 use Rattle.elementary.specs.Rung.{rungOf, digitsOf}
 use Rattle.elementary.specs.Sqrt.{scaledOf, rootBits, sqrtOf}
 use Rattle.elementary.proofs.Squares.{root-is, perfect}
-use Rattle.pitch.specs.Register.{nil}
+use Rattle.registers.specs.Register.{nil}
 use Rattle.harmonics.specs.Partials.{countOf, keptOf, allowedOf, sumOf, harmonicFrom, harmonicOf, withoutOf, drawnFrom, drawnOf, partialsOf}
 use Rattle.pitch_laws.proofs.Harmonics.{no-room}
 use Rattle.settings.specs.Mending.{finiteOr, phaseOf}
