@@ -6,7 +6,7 @@ use lib.Dec.{eqb, ltb}
 use lib.ListN.{getD, set}
 use lib.Ieee.{binary32, toBits}
 use Rattle.lists.specs.Pick.{pick}
-use Rattle.floats.specs.Word.{rotated}
+use Rattle.words.specs.Word.{rotated}
 use Rattle.draws.specs.Draws.{mixOf, randomOf}
 use Rattle.births.specs.declared.Voice.{Voice}
 use Rattle.births.specs.Births.{freeVoiceOf, sourceVoiceOf, newbornOf}

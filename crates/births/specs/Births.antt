@@ -4,7 +4,7 @@ use mathlib.Core.Bool.{true}
 use mathlib.Core.List.{List, [], _∷_}
 use lib.Ieee.{Float, binary32, binary64, toUnsigned}
 use Rattle.floats.specs.Names.{f32, f64, add32, sub32, mul32, div32, div64}
-use Rattle.floats.specs.Choose.{min, clamp}
+use Rattle.choices.specs.Choose.{min, clamp}
 use Rattle.casts.specs.Convert.{convert}
 use Rattle.floats.specs.Whole.{floor}
 use Rattle.draws.specs.Draws.{randomOf}

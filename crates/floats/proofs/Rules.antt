@@ -1,15 +1,13 @@
 -- The rules of order for a caller, over the format and over all floats.
-use Prim.Native.Nat.{ℕ, _+_, _-_, _*_, _≤_}
+use Prim.Native.Nat.{_-_, _*_, _≤_}
 use native.Mathlib.Omega.{arith}
 use mathlib.Core.Path.{_≡_, sym, _∙_, subst}
-use mathlib.Core.Bool.{Bool, true, false, not, cond, _&&_, _||_, Bool·beq}
+use mathlib.Core.Bool.{Bool, true, false, not, _||_}
 use borrow.Author.Tests.{ltb-false}
-use lib.Dec.{T, ltb, leb→le, le→leb}
-use lib.Ieee.{Float, nan, inf, fin, Format, up, down, round, sum, add, sub, neg, lt, le, eq, fits, isNan}
+use lib.Dec.{T, leb→le, le→leb}
+use lib.Ieee.{Float, nan, inf, fin, Format, up, down, add, neg, lt, le, eq, fits, isNan}
 use lib.Ieee.Scale.{finite}
-use lib.Ieee.Bits.{is-true}
-use Rattle.casts.proofs.Facts.{eq-self}
-use Rattle.floats.proofs.Floor.{round-number, cond-number}
+use Rattle.choices.proofs.Rounded.{sum-number}
 use Rattle.floats.proofs.Keys.{key, le-key, lt-key}
 
 -- what is compared with success is no NaN
@@ -54,12 +52,6 @@ module _ (f : Format) where
   finite-number (inf s) h = tt
   finite-number (fin s m e) h = tt
 
-  sum-number : (s : Bool) (a : ℕ) (t : Bool) (b c : ℕ) → T (not (isNan (sum f s a t b c)))
-  unfolding sum
-  sum-number s a t b c =
-      cond-number (Bool·beq s t) (round f s (a + b) c) (cond (ltb a b) (round f t (b - a) c) (round f (s && ltb b a) (a - b) c)) (round-number f s (a + b) c)
-      (cond-number (ltb a b) (round f t (b - a) c) (round f (s && ltb b a) (a - b) c) (round-number f t (b - a) c) (round-number f (s && ltb b a) (a - b) c))
-
   pub add-number : (x y : Float) → T (not (isNan x)) → T (finite y) → T (not (isNan (add f x y)))
   unfolding add isNan
   add-number nan y u v = absurd u
@@ -68,15 +60,7 @@ module _ (f : Format) where
   add-number (inf s) (fin t n d) u v = tt
   add-number (fin s m e) nan u v = absurd v
   add-number (fin s m e) (inf t) u v = absurd v
-  add-number (fin s m e) (fin t n d) u v = sum-number s (m * up e * down d) t (n * up d * down e) (down e * down d)
-
-  -- only a finite number's difference from itself is a number
-  pub self-apart : (x : Float) → eq (sub f x x) (sub f x x) ≡ finite x
-  unfolding sub add neg isNan
-  self-apart nan = eq-self nan
-  self-apart (inf true) = eq-self nan
-  self-apart (inf false) = eq-self nan
-  self-apart (fin s m e) = eq-self (sum f s (m * up e * down e) (not s) (m * up e * down e) (down e * down e)) ∙ is-true _ (sum-number s (m * up e * down e) (not s) (m * up e * down e) (down e * down e))
+  add-number (fin s m e) (fin t n d) u v = sum-number f s (m * up e * down d) t (n * up d * down e) (down e * down d)
 
   pub neg-finite : (x : Float) → T (finite x) → T (finite (neg x))
   unfolding neg

@@ -8,7 +8,7 @@ use lib.IntN.{ℤ}
 use lib.Dec.{T}
 use lib.Ieee.{Float, nan, inf, fin, Format, neg, lt, le, fits, isNan}
 use Rattle.lists.specs.Pick.{by-case}
-use Rattle.floats.specs.Choose.{min}
+use Rattle.choices.specs.Choose.{min}
 use Rattle.floats.proofs.Keys.{key, lt-key, le-key}
 use Rattle.floats_laws.proofs.Mag.{Mag, Upto, le-upto}
 use Rattle.floats_laws.proofs.Rising.{nought, neg-falls, past-lowest, past-highest}

@@ -13,7 +13,7 @@ use lib.Ieee.Order as Order
 use lib.Ieee.Order.{round-mono}
 use lib.Ieee.Scale.{round-same}
 use Rattle.casts.proofs.Values.{own-round}
-use Rattle.floats.proofs.Floor.{round-number}
+use Rattle.choices.proofs.Rounded.{round-number}
 use Rattle.floats.proofs.Keys.{over, mag, side, key, le-key}
 
 -- ---- the sign of a rounded value is the one given

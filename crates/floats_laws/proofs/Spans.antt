@@ -11,7 +11,7 @@ use lib.Ieee.Bits.{is-true}
 use denote.Floats.{passes}
 use borrow.Author.Tests.{lt-ltb, ltb-true}
 use Rattle.lists.specs.Pick.{by-case}
-use Rattle.floats.specs.Choose.{max}
+use Rattle.choices.specs.Choose.{max}
 use Rattle.floats.proofs.Keys.{key, lt-key}
 use Rattle.floats.proofs.Rules.{le-left, le-right, lt→le, le→key}
 use Rattle.floats_laws.proofs.Rising.{nought}

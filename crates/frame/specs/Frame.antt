@@ -10,7 +10,7 @@ use lib.ListN.{getD}
 use Rattle.lists.specs.Pick.{pick}
 use Rattle.lists.specs.Table.{table}
 use Rattle.floats.specs.Names.{f32, f64, add32, sub32, mul32, div32, div64}
-use Rattle.floats.specs.Choose.{max}
+use Rattle.choices.specs.Choose.{max}
 use Rattle.casts.specs.Convert.{convert}
 use Rattle.elementary.specs.Log2.{log2Of}
 use Rattle.powers.specs.Power.{exp2, exp}

@@ -17,7 +17,7 @@ use lib.Ieee.Scale.{finite}
 use Rattle.lists.specs.Pick.{either}
 use Rattle.lists.specs.Table.{table-at}
 use Rattle.floats.specs.Names.{f32}
-use Rattle.floats.specs.Choose.{clamp}
+use Rattle.choices.specs.Choose.{clamp}
 use Rattle.floats_laws.proofs.Bounds.{add-mag, mul-mag}
 use Rattle.floats_laws.proofs.Choosing.{min-fits, clamp-least, clamp-fits}
 use Rattle.floats_laws.proofs.Held.{clamp-mag}

@@ -15,7 +15,7 @@ use lib.Ieee.Bits.{is-false, ofBits-toBits}
 use lib.Ieee.Scale.{finite}
 use lib.ListN.{getD}
 use Rattle.lists.specs.Pick.{by-case}
-use Rattle.floats.specs.Choose.{max}
+use Rattle.choices.specs.Choose.{max}
 use Rattle.floats_laws.proofs.Bounds.{add-mag}
 use Rattle.floats_laws.proofs.Choosing.{max-fits, max-right}
 use Rattle.floats_laws.proofs.Ends.{mag-between}

@@ -6,7 +6,7 @@ use lib.Ieee.{Float, binary32, toUnsigned, lt}
 use Rattle.lists.specs.Pick.{pick}
 use Rattle.lists.specs.Times.{times}
 use Rattle.floats.specs.Names.{f32, add32, sub32, mul32, div32}
-use Rattle.floats.specs.Choose.{max, min}
+use Rattle.choices.specs.Choose.{max, min}
 use Rattle.floats.specs.Whole.{floor, ceil}
 use Rattle.draws.specs.Draws.{randomOf}
 use Rattle.elementary.specs.Log2.{log2Of}

@@ -12,7 +12,7 @@ use lib.Ieee.Scale.{finite}
 use denote.Floats.{passes}
 use Rattle.lists.specs.Pick.{pick, by-case}
 use Rattle.floats.specs.Names.{f32, add32, sub32, mul32}
-use Rattle.floats.specs.Choose.{max, min}
+use Rattle.choices.specs.Choose.{max, min}
 use Rattle.floats_laws.proofs.Bounds.{add-mag, sub-mag, mul-mag, div-mag, max-mag}
 use Rattle.floats_laws.proofs.Choosing.{max-right, min-fits, min-right}
 use Rattle.floats_laws.proofs.Ends.{of-min, not-above}

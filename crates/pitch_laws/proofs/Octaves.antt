@@ -14,7 +14,7 @@ use lib.Ieee.Exact.{HasValue}
 use lib.Ieee.Scale.{finite}
 use Rattle.lists.specs.Pick.{by-case, either}
 use Rattle.floats.specs.Names.{f32, add32, sub32, mul32}
-use Rattle.floats.specs.Choose.{max}
+use Rattle.choices.specs.Choose.{max}
 use Rattle.floats.specs.Whole.{floor, ceil}
 use Rattle.floats_laws.proofs.Bounds.{sub-mag}
 use Rattle.floats_laws.proofs.Choosing.{max-fits, min-fits, max-right, min-left}

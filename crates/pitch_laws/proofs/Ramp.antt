@@ -6,7 +6,7 @@ use lib.Dec.{T}
 use lib.Ieee.{Float, isNan, lt, le, eq, toBits, round, sum, add, sub, neg, mul, div, ofInt, ofBits, ofFields, size, span, climb, units, odd}
 use lib.Ieee.Scale.{finite}
 use Rattle.floats.specs.Names.{f32, add32, sub32, mul32}
-use Rattle.floats.specs.Choose.{max}
+use Rattle.choices.specs.Choose.{max}
 use Rattle.floats_laws.proofs.Rising.{nought}
 use Rattle.elementary.specs.Rung.{rungOf, digitsOf}
 use Rattle.elementary.specs.Log2.{tops, topOf, slopes, slopeOf, bends, bendOf, fallOf, cellOf, fractionOf, joinedOf, logOf, log2Of}

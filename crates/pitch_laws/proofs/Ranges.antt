@@ -8,7 +8,7 @@ use lib.Ieee.Fits.{mul-fits, div-fits}
 use lib.Ieee.Scale.{finite}
 use lib.Count.{leadingZeros, trailingZeros}
 use Rattle.floats.specs.Names.{f32, add32, sub32, mul32, div32}
-use Rattle.floats.specs.Choose.{clamp}
+use Rattle.choices.specs.Choose.{clamp}
 use Rattle.floats_laws.proofs.Choosing.{clamp-fits, clamp-least, clamp-most}
 use Rattle.floats_laws.proofs.Numbers.{mul-number, div-number}
 use Rattle.floats_laws.proofs.Rising.{nought, add-rises-right, mul-rises}

@@ -1,11 +1,11 @@
 // Single layers handed over on numbers, for the comparison with the Rust alone.
 ghost use Rattle.draws.specs.Draws.{keyOf, mixOf, randomOf, streamOf};
-ghost use Rattle.floats.specs.Choose.{max, min, clamp, abs};
+ghost use Rattle.choices.specs.Choose.{max, min, clamp, abs};
 ghost use Rattle.casts.specs.Convert.{convert};
 ghost use Rattle.floats.specs.Remainder.{remEuclid};
 ghost use Rattle.floats.specs.Whole.{floor, ceil};
 ghost use Rattle.floats.specs.Names.{f32};
-ghost use Rattle.floats.specs.Word.{product, rotated};
+ghost use Rattle.words.specs.Word.{product, rotated};
 ghost use lib.Ieee.Scale.{finite};
 ghost use lib.Ieee.{binary32, binary64, ofBits, toBits, ofInt, toUnsigned, rem};
 ghost use lib.IntN.{pos};

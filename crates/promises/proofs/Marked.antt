@@ -11,9 +11,9 @@ use Rattle.lists.specs.Pick.{pick, picked, passed, either}
 use Rattle.lists.specs.Table.{from}
 use Rattle.lists.specs.Walk.{walk}
 use Rattle.floats.specs.Names.{f32, f64, sub32, mul32}
-use Rattle.floats.specs.Choose.{clamp, abs}
+use Rattle.choices.specs.Choose.{clamp, abs}
 use Rattle.floats.specs.Remainder.{remEuclid}
-use Rattle.floats.specs.Word.{product}
+use Rattle.words.specs.Word.{product}
 use Rattle.draws.specs.Draws.{mixOf, keyOf, randomOf}
 use Rattle.elementary.specs.Rung.{rungOf, digitsOf}
 use Rattle.elementary.specs.Sqrt.{scaledOf, rootBits, sqrtOf}

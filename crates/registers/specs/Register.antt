@@ -1,7 +1,7 @@
 -- How a register counts by its height, line by line as the Rust. Definitions only.
 use lib.Ieee.{Float}
 use Rattle.floats.specs.Names.{f32, add32, sub32, mul32, div32}
-use Rattle.floats.specs.Choose.{clamp}
+use Rattle.choices.specs.Choose.{clamp}
 use Rattle.elementary.specs.Log2.{log2Of}
 
 -- 0.0, 0.5 and 1.0

@@ -12,7 +12,7 @@ use lib.Ieee.{Float, binary32, fits, ofBits, ofFields, rem, add, sum, round, le,
 use lib.Ieee.Bits.{ofBits-fits}
 use Rattle.lists.specs.Pick.{pick, either}
 use Rattle.floats.specs.Names.{f32}
-use Rattle.floats.specs.Choose.{clamp, abs}
+use Rattle.choices.specs.Choose.{clamp, abs}
 use Rattle.floats.specs.Remainder.{remEuclid}
 use Rattle.pool.specs.declared.Particle.{Particle}
 use Rattle.pool.specs.Pool.{freeParticle, retireBoundOne, retuneOne}

@@ -10,7 +10,7 @@ use lib.Ieee.Fits.{mul-fits}
 use lib.Ieee.Scale.{finite}
 use Rattle.lists.specs.Pick.{pick}
 use Rattle.floats.specs.Names.{f32, f64, mul32, div64}
-use Rattle.floats.specs.Choose.{min}
+use Rattle.choices.specs.Choose.{min}
 use Rattle.floats.specs.Whole.{floor}
 use Rattle.floats_laws.proofs.Choosing.{clamp-fits, clamp-least, clamp-most}
 use Rattle.floats_laws.proofs.Products.{mul-rises-right}

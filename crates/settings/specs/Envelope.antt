@@ -5,7 +5,7 @@ use lib.IntN.{pos}
 use lib.Dec.{eqb}
 use lib.Ieee.{Float, binary32, ofInt}
 use Rattle.floats.specs.Names.{f32, add32, sub32, mul32, div32}
-use Rattle.floats.specs.Choose.{max, clamp}
+use Rattle.choices.specs.Choose.{max, clamp}
 use Rattle.draws.specs.Draws.{randomOf}
 use Rattle.elementary.specs.Sqrt.{sqrtOf}
 use Rattle.settings.specs.declared.Config.{Config}

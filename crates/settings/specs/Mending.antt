@@ -6,7 +6,7 @@ use lib.Ieee.{Float, binary32, le}
 use lib.Ieee.Scale.{finite}
 use Rattle.lists.specs.Pick.{pick}
 use Rattle.floats.specs.Names.{f32}
-use Rattle.floats.specs.Choose.{clamp}
+use Rattle.choices.specs.Choose.{clamp}
 use Rattle.floats.specs.Remainder.{remEuclid}
 use Rattle.refusals.specs.declared.Answer.{Answer}
 use Rattle.refusals.specs.declared.Answer.the-variants.{Taken, Refused}

@@ -11,7 +11,7 @@ use lib.Ieee.Scale.{finite}
 use lib.Ieee.Bits.{is-true, ofBits-fits}
 use Rattle.lists.specs.Pick.{pick, by-case}
 use Rattle.floats.specs.Names.{f32}
-use Rattle.floats.specs.Choose.{clamp, abs}
+use Rattle.choices.specs.Choose.{clamp, abs}
 use Rattle.floats.specs.Remainder.{remEuclid}
 use Rattle.floats.proofs.Rules.{between-finite}
 use Rattle.floats_laws.proofs.Rising.{nought}

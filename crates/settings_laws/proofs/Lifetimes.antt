@@ -7,7 +7,7 @@ use lib.Ieee.Scale.{finite}
 use lib.Ieee.Bits.{is-false, ofBits-fits}
 use Rattle.lists.specs.Pick.{either}
 use Rattle.floats.specs.Names.{f32, add32, sub32, mul32, div32}
-use Rattle.floats.specs.Choose.{max, clamp}
+use Rattle.choices.specs.Choose.{max, clamp}
 use Rattle.floats.proofs.Rules.{finite-number, le-trans, between-finite}
 use Rattle.floats_laws.proofs.Rising.{nought}
 use Rattle.floats_laws.proofs.Choosing as choosing

@@ -13,7 +13,7 @@ use lib.Ieee.Exact.{HasValue}
 use denote.Floats.{passes}
 use Rattle.lists.specs.Pick.{by-case}
 use Rattle.floats.specs.Names.{f32, mul32, div32, sub32}
-use Rattle.floats.specs.Choose.{max}
+use Rattle.choices.specs.Choose.{max}
 use Rattle.floats_laws.proofs.Mag.{Mag, Upto, Least, round-mag, round-upto, le-of}
 use Rattle.floats_laws.proofs.Bounds.{max-mag, mul-upto, of-upto, apart-mag}
 use Rattle.floats_laws.proofs.Held.{max-least}

@@ -7,9 +7,9 @@ use lib.Dec.{ltb}
 use lib.Ieee.{Float, binary32, binary64, ofInt, toUnsigned, lt, le}
 use Rattle.lists.specs.Pick.{pick}
 use Rattle.floats.specs.Names.{f32, f64, mul32, add64, sub64, mul64, div64}
-use Rattle.floats.specs.Choose.{max}
+use Rattle.choices.specs.Choose.{max}
 use Rattle.floats.specs.Whole.{floor}
-use Rattle.floats.specs.Word.{product}
+use Rattle.words.specs.Word.{product}
 use Rattle.draws.specs.Draws.{randomOf, keyOf}
 use Rattle.timing.specs.declared.SprinkleStream.{SprinkleStream}
 

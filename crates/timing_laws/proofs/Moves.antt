@@ -9,7 +9,7 @@ use lib.Pow.{pow-pos}
 use lib.Ieee.{Float, le}
 use borrow.Author.Tests.{ltb-true, ltb-false}
 use Rattle.lists.specs.Pick.{pick, by-case, either}
-use Rattle.floats.specs.Word.{product}
+use Rattle.words.specs.Word.{product}
 use Rattle.timing.specs.declared.SprinkleStream.{SprinkleStream}
 use Rattle.timing.specs.Streams.{after, preparedOf, groupOf, skippedOf, alignedOf, larger, movedOf}
 

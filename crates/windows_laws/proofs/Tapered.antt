@@ -13,7 +13,7 @@ use lib.Ieee as Ieee
 use lib.Ieee.Bits.{is-false}
 use lib.Ieee.Fits.{mul-fits, sub-fits}
 use lib.Ieee.Scale.{finite}
-use Rattle.floats.specs.Choose.{clamp}
+use Rattle.choices.specs.Choose.{clamp}
 use Rattle.floats_laws.proofs.Bounds.{mul-mag, sub-mag}
 use Rattle.floats_laws.proofs.Choosing.{clamp-fits, clamp-least, clamp-most}
 use Rattle.floats_laws.proofs.Ends.{not-le→lt}
