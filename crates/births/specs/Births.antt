@@ -21,7 +21,7 @@ use Rattle.settings.specs.declared.Config.{Config}
 use Rattle.settings.specs.declared.Direction.{Direction}
 use Rattle.settings.specs.declared.Shape.{Shape}
 use Rattle.settings.specs.declared.Shape.the-variants.{Sprinkle, Cloud}
-use Rattle.settings.specs.Envelope.{envelopeOf}
+use Rattle.envelopes.specs.Envelope.{envelopeOf}
 use Rattle.sources.specs.declared.Source.{Source}
 use Rattle.births.specs.declared.Voice.{Voice}
 

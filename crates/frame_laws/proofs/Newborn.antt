@@ -41,8 +41,9 @@ use Rattle.settings.specs.declared.Direction.{Direction}
 use Rattle.settings.specs.declared.Direction.the-variants.{Forward, Reverse, Alternate}
 use Rattle.settings.specs.declared.Shape.{Shape}
 use Rattle.settings.specs.declared.Shape.the-variants.{Sprinkle, Cloud}
-use Rattle.settings.specs.Envelope.{sprinkleOf, cloudOf, cloudAttackOf, byShape, envelopeOf}
-use Rattle.settings.specs.Mending.{one, maxHop, lawfulRate, finiteOr, heldTo, mendedOf}
+use Rattle.envelopes.specs.Envelope.{sprinkleOf, cloudOf, cloudAttackOf, byShape, envelopeOf}
+use Rattle.settings.specs.Settings.{one, maxHop, lawfulRate}
+use Rattle.mending.specs.Mending.{finiteOr, heldTo, mendedOf}
 use Rattle.settings_laws.proofs.Again.{finite-or, or-fits}
 use Rattle.settings_laws.proofs.Lifetimes.{Formed, envelope-sound}
 use Rattle.births.specs.declared.Voice.{Voice}

@@ -36,7 +36,7 @@ use Rattle.floats.proofs.Rules.{lt→le, le-trans as le-through}
 use Rattle.floats_laws.proofs.Spans.{least-above}
 use Rattle.floats_laws.proofs.Through.{lt-le}
 use Rattle.floats_laws.proofs.Units.{one as i, zero-fits, one-times}
-use Rattle.settings.specs.Mending.{lawfulRate}
+use Rattle.settings.specs.Settings.{lawfulRate}
 use Rattle.windows.specs.Opening.{nil}
 use Rattle.bin_tables.specs.Bins.{asFloat, logAt, logsOf}
 use Rattle.bin_tables.specs.Logs.{lawfulAt, lawfulLogs}

@@ -31,7 +31,7 @@ use Rattle.elementary.proofs.LogRises.{log2-rises}
 use Rattle.elementary_laws.proofs.PowerRises.{exp2-like}
 use Rattle.elementary_laws.proofs.PowerValues.{exp2-exact, power-fits}
 use Rattle.elementary_laws.proofs.RootRises.{lowest, lowest-root, highest-root, sqrt-fits, sqrt-window}
-use Rattle.settings.specs.Mending.{lawfulRate}
+use Rattle.settings.specs.Settings.{lawfulRate}
 use Rattle.registers.specs.Register.{nil, half, minHz, lowProbability}
 use Rattle.pitch.specs.Cloud.{two, lowerOf, inRamp, offsetOf, frequencyOf}
 use Rattle.registers.proofs.Logs.{log-of-min}

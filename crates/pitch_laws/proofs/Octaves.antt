@@ -25,7 +25,8 @@ use Rattle.floats_laws.proofs.Numbers.{mul-number}
 use Rattle.floats_laws.proofs.Rising.{nought, mul-rises}
 use Rattle.floats.proofs.Rules.{le-right, le-trans, between-finite}
 use Rattle.elementary.specs.Rung.{rungOf, digitsOf}
-use Rattle.elementary.specs.Log2.{tops, topOf, slopes, slopeOf, bends, bendOf, fallOf, cellOf, fractionOf, joinedOf, logOf, log2Of}
+use Rattle.parabolas.specs.Parabolas.{tops, topOf, slopes, slopeOf, bends, bendOf}
+use Rattle.elementary.specs.Log2.{fallOf, cellOf, fractionOf, joinedOf, logOf, log2Of}
 use Rattle.floats_laws.proofs.Spans.{lt-le}
 use Rattle.elementary.proofs.LogExact.{log2-fits}
 use Rattle.elementary.proofs.LogRises.{least, most, log2-rises, log2-within}

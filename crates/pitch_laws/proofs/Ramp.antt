@@ -9,7 +9,8 @@ use Rattle.floats.specs.Names.{f32, add32, sub32, mul32}
 use Rattle.choices.specs.Choose.{max}
 use Rattle.floats_laws.proofs.Rising.{nought}
 use Rattle.elementary.specs.Rung.{rungOf, digitsOf}
-use Rattle.elementary.specs.Log2.{tops, topOf, slopes, slopeOf, bends, bendOf, fallOf, cellOf, fractionOf, joinedOf, logOf, log2Of}
+use Rattle.parabolas.specs.Parabolas.{tops, topOf, slopes, slopeOf, bends, bendOf}
+use Rattle.elementary.specs.Log2.{fallOf, cellOf, fractionOf, joinedOf, logOf, log2Of}
 use Rattle.elementary_laws.proofs.RootRises.{lowest, lowest-root}
 use Rattle.registers.specs.Register.{nil, half, minHz, lowProbability}
 use Rattle.pitch.specs.Cloud.{two, rampOf, massOf}

@@ -21,7 +21,7 @@ use Rattle.elementary.proofs.Squares.{root-is, perfect}
 use Rattle.registers.specs.Register.{nil}
 use Rattle.harmonics.specs.Partials.{countOf, keptOf, allowedOf, sumOf, harmonicFrom, harmonicOf, withoutOf, drawnFrom, drawnOf, partialsOf}
 use Rattle.pitch_laws.proofs.Harmonics.{no-room}
-use Rattle.settings.specs.Mending.{finiteOr, phaseOf}
+use Rattle.mending.specs.Mending.{finiteOr, phaseOf}
 use Rattle.state.specs.declared.Engine.{Engine}
 use Rattle.changes.specs.Changes.{retiredAll, aligned, soughtPhase, soughtOf}
 use Rattle.windows.specs.Opening.{cubic, taperOf, insideOf, opennessOf}

@@ -29,7 +29,7 @@ use Rattle.pitch.specs.Cloud.{frequencyOf}
 use Rattle.pitch_laws.proofs.Frequency.{highestOf, rate-sounds}
 use Rattle.settings.specs.declared.Shape.{Shape}
 use Rattle.settings.specs.declared.Shape.the-variants.{Sprinkle, Cloud}
-use Rattle.settings.specs.Mending.{lawfulRate}
+use Rattle.settings.specs.Settings.{lawfulRate}
 use Rattle.sources.specs.declared.Source.{Source}
 use Rattle.sources.specs.Sources.{isPitched, isEligible}
 use Rattle.births.specs.Births.{maxHzOf, freeRootOf, freeHzOf, freeVoiceOf, sourceVoiceOf}

@@ -18,7 +18,8 @@ use Rattle.floats_laws.proofs.Rising.{nought}
 use Rattle.floats_laws.proofs.Euclid.{euclid-within}
 use Rattle.floats_laws.proofs.Again.{clamp-again, clamp-finite, euclid-fits, euclid-again}
 use Rattle.settings.specs.declared.Config.{Config}
-use Rattle.settings.specs.Mending.{nil, one, finiteOr, heldTo, attackOf, releaseMsOf, partialsOf, rolloffOf, rateOf, sizeOf, phaseOf, mendedOf}
+use Rattle.settings.specs.Settings.{nil, one}
+use Rattle.mending.specs.Mending.{finiteOr, heldTo, attackOf, releaseMsOf, partialsOf, rolloffOf, rateOf, sizeOf, phaseOf, mendedOf}
 
 -- ---- `finite`
 pub finite-again : (x d : Float) → finiteOr (finiteOr x d) d ≡ finiteOr x d

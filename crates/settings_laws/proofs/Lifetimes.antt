@@ -20,13 +20,14 @@ use Rattle.draws.proofs.Unit.{random-mag}
 use Rattle.elementary.specs.Sqrt.{sqrtOf}
 use Rattle.elementary_laws.proofs.RootRises.{lowest, lowest-root, highest, highest-root, sqrt-window, sqrt-finite}
 use Rattle.settings.specs.declared.Config.{Config}
-use Rattle.settings.specs.declared.Contour.{Contour}
+use Rattle.envelopes.specs.declared.Contour.{Contour}
 use Rattle.settings.specs.declared.Shape.{Shape}
 use Rattle.settings.specs.declared.Shape.the-variants.{Sprinkle, Cloud}
 use Rattle.settings.specs.declared.Direction.{Direction}
 use Rattle.settings.specs.declared.Direction.the-variants.{Forward, Reverse, Alternate}
-use Rattle.settings.specs.Mending.{nil, one, maxHop, lawfulRate, finiteOr, heldTo, attackOf, releaseMsOf, rateOf, sizeOf, mendedOf}
-use Rattle.settings.specs.Envelope.{two, hopFloorOf, onsetOf, releaseOf, sprinkleOf, variationOf, rawOf, cloudLifetimeOf, cloudAttack, reverseAttack, cloudAttackOf, cloudOf, byShape, envelopeOf}
+use Rattle.settings.specs.Settings.{nil, one, maxHop, lawfulRate}
+use Rattle.mending.specs.Mending.{finiteOr, heldTo, attackOf, releaseMsOf, rateOf, sizeOf, mendedOf}
+use Rattle.envelopes.specs.Envelope.{two, hopFloorOf, onsetOf, releaseOf, sprinkleOf, variationOf, rawOf, cloudLifetimeOf, cloudAttack, reverseAttack, cloudAttackOf, cloudOf, byShape, envelopeOf}
 use Rattle.settings_laws.proofs.Again.{finite-or, or-fits}
 use Rattle.settings_laws.proofs.Seconds.{floor-upto, onset-least, onset-upto, release-least, release-upto}
 use Rattle.settings_laws.proofs.Attack.{Part, stage-part}
