@@ -25,13 +25,13 @@ use Rattle.floats_laws.proofs.Mag.{Mag, mag-finite, within}
 use Rattle.floats_laws.proofs.Numbers.{mul-number}
 use Rattle.floats_laws.proofs.Products.{product-from-zero, mul-rises-right}
 use Rattle.floats_laws.proofs.Rising.{nought, add-rises-right, mul-rises}
-use Rattle.floats.proofs.Rules.{finite-number, add-number, lt→le, le-trans as float-trans}
+use Rattle.floats_laws.proofs.Rules.{finite-number, add-number, lt→le, le-trans as float-trans}
 use Rattle.floats_laws.proofs.Spans.{lt-le}
 use Rattle.floats_laws.proofs.Unit.{i, Unit, i-fits, nought-fits, one-unit, unit-finite, unit-mag, product-unit}
 use Rattle.draws.specs.Draws.{randomOf}
 use Rattle.draws.proofs.Unit.{random-in}
 use Rattle.elementary.specs.Log2.{log2Of}
-use Rattle.elementary.proofs.LogRises.{log2-within}
+use Rattle.elementary_laws.proofs.LogRises.{log2-within}
 use Rattle.octaves.specs.Octave.{registerOf}
 use Rattle.registers.specs.Register as register
 use Rattle.pitch_laws.proofs.Octaves.{WholeUpto, octave-whole}

@@ -12,7 +12,7 @@ use Rattle.lists.specs.Pick.{by-case}
 use Rattle.lists.specs.Table.{table, length-table, table-at}
 use Rattle.choices.specs.Choose.{max}
 use Rattle.choices.proofs.Rounded.{cond-number}
-use Rattle.floats.proofs.Rules.{lt→le, le-right}
+use Rattle.floats_laws.proofs.Rules.{lt→le, le-right}
 use Rattle.windows.specs.declared.Window.{Window}
 use Rattle.windows.specs.Opening.{nil, opennessOf}
 use Rattle.mask.specs.Gains.{touches, raisedOf}

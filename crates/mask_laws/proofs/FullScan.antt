@@ -19,7 +19,7 @@ use Rattle.floats_laws.proofs.Ends.{not-above, not-le→lt}
 use Rattle.floats_laws.proofs.Gap.{quotient-number, one-number}
 use Rattle.floats_laws.proofs.Products.{product-to-zero}
 use Rattle.floats_laws.proofs.Rising.{nought}
-use Rattle.floats.proofs.Rules.{lt→le, le-left, le-right, le-trans, add-number, neg-finite, finite-number}
+use Rattle.floats_laws.proofs.Rules.{lt→le, le-left, le-right, le-trans, add-number, neg-finite, finite-number}
 use Rattle.choices.proofs.Sign.{abs-number}
 use Rattle.floats_laws.proofs.Units.{one as i, zero-fits, one-fits, unit}
 use Rattle.windows.specs.declared.Window.{Window}

@@ -17,7 +17,7 @@ use Rattle.casts.proofs.Values.{own-round, same-fin}
 use Rattle.floats_laws.proofs.Ends.{not-le→lt}
 use Rattle.floats_laws.proofs.Mono.{le→signed}
 use Rattle.floats_laws.proofs.Rising.{nought, neg-falls, not-above, not-itself}
-use Rattle.floats.proofs.Rules.{neg-finite, add-number, finite-number}
+use Rattle.floats_laws.proofs.Rules.{neg-finite, add-number, finite-number}
 use Rattle.floats_laws.proofs.Gap.{gap-below, gap-above, div-one, one-less}
 use Rattle.floats_laws.proofs.Units.{one as i, zero-fits}
 use Rattle.windows.specs.declared.Window.{Window}

@@ -20,14 +20,14 @@ use Rattle.floats_laws.proofs.Mag.{Mag, Upto, Least, le-upto, least-up, mag-le,
 use Rattle.floats_laws.proofs.Numbers.{mul-number}
 use Rattle.floats_laws.proofs.Products.{product-from-zero}
 use Rattle.floats_laws.proofs.Rising.{nought, add-rises-right, mul-rises, neg-falls, sub-rises}
-use Rattle.floats.proofs.Rules.{add-number, between-finite, finite-number, le-left, le-right, le-trans, lt→le}
+use Rattle.floats_laws.proofs.Rules.{add-number, between-finite, finite-number, le-left, le-right, le-trans, lt→le}
 use Rattle.floats_laws.proofs.Spans.{lt-le}
 use Rattle.draws.specs.Draws.{randomOf}
 use Rattle.draws.proofs.Unit.{random-in}
 use Rattle.elementary.specs.Log2.{log2Of}
 use Rattle.powers.specs.Power.{exp2}
 use Rattle.elementary.specs.Sqrt.{sqrtOf}
-use Rattle.elementary.proofs.LogRises.{log2-rises}
+use Rattle.elementary_laws.proofs.LogRises.{log2-rises}
 use Rattle.elementary_laws.proofs.PowerRises.{exp2-like}
 use Rattle.elementary_laws.proofs.PowerValues.{exp2-exact, power-fits}
 use Rattle.elementary_laws.proofs.RootRises.{lowest, lowest-root, highest-root, sqrt-fits, sqrt-window}

@@ -23,13 +23,13 @@ use Rattle.floats_laws.proofs.Integral.{floor-is, ceil-is-up}
 use Rattle.floats_laws.proofs.Mag.{Mag, Upto}
 use Rattle.floats_laws.proofs.Numbers.{mul-number}
 use Rattle.floats_laws.proofs.Rising.{nought, mul-rises}
-use Rattle.floats.proofs.Rules.{le-right, le-trans, between-finite}
+use Rattle.floats_laws.proofs.Rules.{le-right, le-trans, between-finite}
 use Rattle.elementary.specs.Rung.{rungOf, digitsOf}
 use Rattle.parabolas.specs.Parabolas.{tops, topOf, slopes, slopeOf, bends, bendOf}
 use Rattle.elementary.specs.Log2.{fallOf, cellOf, fractionOf, joinedOf, logOf, log2Of}
 use Rattle.floats_laws.proofs.Spans.{lt-le}
-use Rattle.elementary.proofs.LogExact.{log2-fits}
-use Rattle.elementary.proofs.LogRises.{least, most, log2-rises, log2-within}
+use Rattle.elementary_laws.proofs.LogExact.{log2-fits}
+use Rattle.elementary_laws.proofs.LogRises.{least, most, log2-rises, log2-within}
 use Rattle.registers.specs.Register.{nil, half, one, minHz}
 use Rattle.harmonics.specs.Partials.{asFloat}
 use Rattle.octaves.specs.Octave.{upwardOf, lastOf, chosenFrom, chosenOf, firstOf, octavesOf, drawnOf, octaveOf, upperOf, lowerOf, registerOf}

@@ -12,7 +12,7 @@ use Rattle.choices.specs.Choose.{clamp}
 use Rattle.floats_laws.proofs.Choosing.{clamp-fits, clamp-least, clamp-most}
 use Rattle.floats_laws.proofs.Numbers.{mul-number, div-number}
 use Rattle.floats_laws.proofs.Rising.{nought, add-rises-right, mul-rises}
-use Rattle.floats.proofs.Rules.{add-number, between-finite, finite-number, le-trans}
+use Rattle.floats_laws.proofs.Rules.{add-number, between-finite, finite-number, le-trans}
 use Rattle.registers.proofs.Logs.{log-of-min, log-of-range}
 use Rattle.floats_laws.proofs.Products.{product-from-zero, mul-rises-right}
 use Rattle.registers.specs.Register.{nil, one, lowOpening, lowProbability, heightOf, strengthOf, probabilityOf}

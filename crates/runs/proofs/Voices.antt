@@ -15,7 +15,7 @@ use Rattle.floats.specs.Whole.{floor}
 use Rattle.floats_laws.proofs.Choosing.{clamp-fits, clamp-least, clamp-most}
 use Rattle.floats_laws.proofs.Products.{mul-rises-right}
 use Rattle.floats_laws.proofs.Rising.{nought}
-use Rattle.floats.proofs.Rules.{between-finite, finite-number, lt→le}
+use Rattle.floats_laws.proofs.Rules.{between-finite, finite-number, lt→le}
 use Rattle.floats_laws.proofs.Spans.{lt-le}
 use Rattle.floats_laws.proofs.Unit.{i, i-fits, nought-fits, one-unit}
 use Rattle.draws.specs.Draws.{randomOf}

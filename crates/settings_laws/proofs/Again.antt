@@ -13,7 +13,7 @@ use Rattle.lists.specs.Pick.{pick, by-case}
 use Rattle.floats.specs.Names.{f32}
 use Rattle.choices.specs.Choose.{clamp, abs}
 use Rattle.floats.specs.Remainder.{remEuclid}
-use Rattle.floats.proofs.Rules.{between-finite}
+use Rattle.floats_laws.proofs.Rules.{between-finite}
 use Rattle.floats_laws.proofs.Rising.{nought}
 use Rattle.floats_laws.proofs.Euclid.{euclid-within}
 use Rattle.floats_laws.proofs.Again.{clamp-again, clamp-finite, euclid-fits, euclid-again}

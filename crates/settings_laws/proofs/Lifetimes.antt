@@ -8,7 +8,7 @@ use lib.Ieee.Bits.{is-false, ofBits-fits}
 use Rattle.lists.specs.Pick.{either}
 use Rattle.floats.specs.Names.{f32, add32, sub32, mul32, div32}
 use Rattle.choices.specs.Choose.{max, clamp}
-use Rattle.floats.proofs.Rules.{finite-number, le-trans, between-finite}
+use Rattle.floats_laws.proofs.Rules.{finite-number, le-trans, between-finite}
 use Rattle.floats_laws.proofs.Rising.{nought}
 use Rattle.floats_laws.proofs.Choosing as choosing
 use Rattle.floats_laws.proofs.Mag.{Mag, Upto, Least, upto-mag, mag-finite, mag-more, mag-le, least-up, le-upto}

@@ -23,7 +23,7 @@ use Rattle.floats_laws.proofs.Products.{product-from-zero, mul-rises-right}
 use Rattle.floats_laws.proofs.Mono.{le→signed}
 use Rattle.floats_laws.proofs.Numbers.{mul-number}
 use Rattle.floats_laws.proofs.Rising.{nought, sub-falls, mul-rises}
-use Rattle.floats.proofs.Rules.{finite-number, le-trans}
+use Rattle.floats_laws.proofs.Rules.{finite-number, le-trans}
 use Rattle.casts.proofs.Sat.{no}
 use Rattle.floats_laws.proofs.Units.{one as i, zero-fits, one-fits, unit}
 use Rattle.casts.proofs.Values.{fine, same-fin}

@@ -13,20 +13,15 @@ use lib.Ieee.{Float, nan, inf, fin, binary32, fits, isNan, lt, eq, le, toBits, r
 use lib.Ieee.Positive.{positive}
 use lib.Ieee.Scale.{finite}
 use Rattle.floats_laws.proofs.PositiveBits.{positive-above, positive-under}
-use Rattle.floats.proofs.Rules.{between-finite}
+use Rattle.floats_laws.proofs.Rules.{between-finite}
 use Rattle.floats_laws.proofs.ToBits.{toBits-mono}
 use Rattle.elementary.specs.Rung.{rungOf, digitsOf}
 use Rattle.elementary.specs.Log2.{fractionOf, joinedOf, logOf, log2Of}
 use Rattle.elementary.proofs.LogCells.{fraction-mono, fraction-lt}
-use Rattle.elementary.proofs.LogExact.{log2-infinity}
-use Rattle.elementary.proofs.LogRungs.{answer, along, across, upward}
+use Rattle.elementary_laws.proofs.LogExact.{log2-infinity}
+use Rattle.elementary_laws.proofs.LogRungs.{answer, along, across, upward}
 use Rattle.elementary.proofs.Rungs.{Parts, parts, under}
-use Rattle.elementary.proofs.Tested.{nought, passed, above-zero, under-infinity, infinity-top, rises-to}
-
--- a finite number above zero
-pub log-is : (x : Float) → T (positive x) → log2Of x ≡ logOf (toBits binary32 x)
-unfolding log2Of
-log-is x p = let t = passed x p in rw (t .number, t .above, t .some, t .less)
+use Rattle.elementary.proofs.Tested.{nought, log-is, above-zero, under-infinity, infinity-top, rises-to}
 
 -- ---- over patterns
 log-answer : (b : ℕ) → logOf b ≡ answer (rungOf b) (fractionOf (digitsOf b - 8388608))

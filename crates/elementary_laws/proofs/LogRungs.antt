@@ -16,7 +16,7 @@ use lib.Ieee.Fits.{add-fits, and-l, and-r, down-pos}
 use lib.Ieee.Order.{le-of-values}
 use lib.Ieee.Scale.{finite, round-same}
 use Rattle.floats_laws.proofs.Rescaled.{powers-join}
-use Rattle.floats.proofs.Rules.{add-number, finite-number, le-trans}
+use Rattle.floats_laws.proofs.Rules.{add-number, finite-number, le-trans}
 use Rattle.floats_laws.proofs.Rising.{add-rises}
 use Rattle.lists.specs.All.{all, all-at}
 
