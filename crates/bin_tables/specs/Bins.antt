@@ -12,7 +12,7 @@ use Rattle.elementary.specs.Log2.{log2Of}
 use Rattle.refusals.specs.declared.Answer.{Answer}
 use Rattle.refusals.specs.declared.Answer.the-variants.{Taken, Refused}
 use Rattle.refusals.specs.declared.Refusal.the-variants.{Rate, Size, Lengths}
-use Rattle.settings.specs.Mending.{lawfulRate}
+use Rattle.settings.specs.Settings.{lawfulRate}
 use Rattle.windows.specs.Opening.{nil}
 
 -- n as f32

@@ -1,7 +1,7 @@
 // The table of the bins' logarithms.
 ghost use mathlib.Core.Path.{_≡_};
 ghost use lib.ListN.{length};
-ghost use Rattle.settings.specs.Mending.{lawfulRate};
+ghost use Rattle.settings.specs.Settings.{lawfulRate};
 ghost use Rattle.bin_tables.specs.Bins.{logAt, logsOf, preparedOf};
 use refusals::Answer;
 use refusals::Refusal;

@@ -169,7 +169,7 @@ pub fn configure(engine: Engine, config: Config) -> Done
 {
     let checked = settings::checked(config);
     match checked {
-        Answer::Taken => state::take(configured(engine, settings::mended(config))),
+        Answer::Taken => state::take(configured(engine, mending::mended(config))),
         Answer::Refused(refusal) => state::refuse(engine, refusal),
     }
 }

@@ -5,7 +5,7 @@ use lib.ListN.{getD, set}
 use lib.Ieee.{Float, binary64, toUnsigned, lt, le}
 use Rattle.lists.specs.Pick.{pick}
 use Rattle.floats.specs.Names.{f64, add64, sub64, mul64, div64}
-use Rattle.floats.specs.Choose.{max}
+use Rattle.choices.specs.Choose.{max}
 use Rattle.floats.specs.Remainder.{remEuclid}
 use Rattle.floats.specs.Whole.{floor}
 use Rattle.draws.specs.Draws.{keyOf}

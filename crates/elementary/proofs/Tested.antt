@@ -8,10 +8,11 @@ use native.Mathlib.Omega.{arith}
 use lib.IntN.{ℤ, pos}
 use lib.Pow.{pow-pos}
 use lib.Dec.{T, eqb, eqb→eq, ltb→lt, lt→ltb}
-use lib.Ieee.{Float, nan, inf, fin, up, down, isNan, ne, lt, le, eq, level}
+use lib.Ieee.{Float, nan, inf, fin, binary32, up, down, isNan, ne, lt, le, eq, level, toBits}
 use lib.Ieee.Fits.{up-pos, and-l}
 use lib.Ieee.Positive.{positive, above, above-of-le}
 use Rattle.casts.proofs.Facts.{ne-self}
+use Rattle.elementary.specs.Log2.{logOf, log2Of}
 use borrow.Author.Tests.{ltb-false, le-ltb, ne-eqb}
 
 abbrev pub nought : Float
@@ -124,3 +125,8 @@ rises-to x y p h = above-is y (above-of-le x y p h)
     above-is (inf false) h = inr refl
     above-is (fin true m e) h = absurd h
     above-is (fin false m e) h = inl h
+
+-- so the logarithm of a finite number above zero is that of its pattern
+pub log-is : (x : Float) → T (positive x) → log2Of x ≡ logOf (toBits binary32 x)
+unfolding log2Of
+log-is x p = let t = passed x p in rw (t .number, t .above, t .some, t .less)

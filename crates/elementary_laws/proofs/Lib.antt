@@ -1,3 +1,6 @@
+pub mod LogRungs
+pub mod LogExact
+pub mod LogRises
 pub mod RootRises
 pub mod RootClosest
 pub mod PowerRises

@@ -14,7 +14,7 @@ use lib.Ieee.Positive.{positive-finite, positive, between}
 use lib.Ieee.Scale.{finite}
 use Rattle.floats_laws.proofs.Numbers.{inside-finite, mul-number, positive-lt}
 use Rattle.floats_laws.proofs.PatternOrder.{patterns-rise}
-use Rattle.floats.proofs.Rules.{add-number, finite-number, between-finite, lt→le}
+use Rattle.floats_laws.proofs.Rules.{add-number, finite-number, between-finite, lt→le}
 use Rattle.floats_laws.proofs.Rising.{add-rises, mul-rises}
 use Rattle.floats_laws.proofs.ToBits.{toBits-mono}
 use Rattle.powers.specs.Placed.{edged, placed, placed32}

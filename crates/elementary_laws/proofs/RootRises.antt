@@ -16,7 +16,7 @@ use lib.Ieee.Positive.{positive, positive-finite}
 use lib.Ieee.Scale.{finite}
 use Rattle.floats_laws.proofs.Patterns.{val-mono, bits-mono}
 use Rattle.floats_laws.proofs.PositiveBits.{positive-above, positive-under, pattern-positive}
-use Rattle.floats.proofs.Rules.{le-trans}
+use Rattle.floats_laws.proofs.Rules.{le-trans}
 use Rattle.floats_laws.proofs.ToBits.{toBits-mono}
 use Rattle.elementary.specs.Rung.{rungOf, digitsOf}
 use Rattle.elementary.specs.Sqrt.{square, nearestRoot, scaledOf, rootBits, sqrtOf}

@@ -3,7 +3,7 @@ use lib.Ieee.{Float}
 use Rattle.lists.specs.Pick.{pick}
 use Rattle.floats.specs.Names.{f32}
 use Rattle.refusals.specs.declared.Refusal.the-variants.{Rate}
-use Rattle.settings.specs.Mending.{lawfulRate}
+use Rattle.settings.specs.Settings.{lawfulRate}
 use Rattle.state.specs.declared.Done.{Done}
 use Rattle.state.specs.declared.Engine.{Engine}
 use Rattle.state.specs.State.{taken, refused}

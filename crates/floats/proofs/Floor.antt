@@ -1,22 +1,21 @@
 -- `floor` and `ceil` of the paths that the code takes, over the format.
-use Prim.Native.Nat.{ℕ, zero, suc, _+_, _-_, _*_, _/_, _^_, _≤_, _<_}
+use Prim.Native.Nat.{ℕ, suc, _+_, _-_, _*_, _/_, _^_, _≤_, _<_}
 use native.Mathlib.Nat.{le-trans, le-of-lt, lt-of-lt-of-le, lt-irrefl, mul-one, one-mul, le-of-suc-le-suc, suc-mul, div-le-self, le-mul-of-pos-right, div-lt-iff-lt-mul, div-add-mod', mod-lt, div-eq-of-lt-le, add-mul, zero-mul, mul-div-cancel}
 use native.Mathlib.Omega.{arith}
 use mathlib.Core.Path.{_≡_, refl, sym, ap, _∙_, subst}
-use mathlib.Core.Bool.{Bool, true, false, not, cond}
+use mathlib.Core.Bool.{Bool, true, false, not}
 use lib.IntN.{ℤ, pos, negsuc}
 use lib.Dec.{T, ltb, ltb→lt}
 use lib.Pow.{pow-pos, pow-mono}
 use borrow.Author.Tests.{ltb-true, ltb-false}
-use lib.Ieee.{Float, nan, inf, fin, Format, binary32, binary64, prec, emax, low, odd, units, up, down, lt, neg, round, ofInt, toUnsigned, fits, isNan}
-use lib.Ieee.Fits.{down-pos, round-fits, round-is, fits-widens}
+use lib.Ieee.{Float, nan, inf, fin, Format, binary32, binary64, prec, up, down, lt, neg, round, ofInt, toUnsigned, fits, isNan}
+use lib.Ieee.Fits.{down-pos, round-fits, fits-widens}
 use lib.Ieee.Back.{round-whole, whole-unique}
 use lib.Ieee.Scale.{round-same}
-use lib.Ieee.Order as Order
-use lib.Ieee.Order.{drop}
 use Rattle.floats.specs.Whole.{floor, ceil, cut, lift}
 use Rattle.casts.proofs.Sat.{no}
 use Rattle.casts.proofs.Values.{fine, own-round, neg-round}
+use Rattle.choices.proofs.Rounded.{round-number}
 use Rattle.floats.proofs.Order.{lt-values}
 
 -- ---- quotients
@@ -183,22 +182,6 @@ floor-fits f (fin false m e) = round-fits f false (cut m e) 1
 floor-fits f (fin true m e) = round-fits f true (lift m e) 1
 
 -- the floor of a number is no NaN
-odd-number : (d : ℕ) (s : Bool) (q k l : ℕ) → T (not (isNan (odd d s q k l)))
-unfolding odd isNan
-odd-number d s zero k l = tt
-odd-number d s (suc q) k l = tt
-
-pub cond-number : (t : Bool) (x y : Float) → T (not (isNan x)) → T (not (isNan y)) → T (not (isNan (cond t x y)))
-cond-number true x y a b = a
-cond-number false x y a b = b
-
-units-number : (f : Format) (s : Bool) (q k : ℕ) → T (not (isNan (units f s q k)))
-unfolding units isNan
-units-number f s q k = cond-number (ltb (q * 2 ^ k) (2 ^ (low f + suc (emax f)))) (odd (suc (prec f)) s q k (low f)) (inf s) (odd-number (suc (prec f)) s q k (low f)) tt
-
-pub round-number : (f : Format) (s : Bool) (a b : ℕ) → T (not (isNan (round f s a b)))
-round-number f s a b = rw (round-is f s a b) (units-number f s (Order.kept (prec f) (a * 2 ^ low f) b) (drop (prec f) (a * 2 ^ low f) b))
-
 pub floor-number : (f : Format) (x : Float) → T (not (isNan x)) → T (not (isNan (floor f x)))
 unfolding floor isNan
 floor-number f nan t = t

@@ -1,7 +1,3 @@
 pub mod Order
 pub mod Floor
-pub mod Keys
-pub mod Rules
-pub mod Sign
-pub mod Words
 pub mod Rem

@@ -1,5 +1,3 @@
 pub mod Names
-pub mod Choose
 pub mod Whole
 pub mod Remainder
-pub mod Word

@@ -3,10 +3,10 @@
 ghost use mathlib.Core.Path.{_≡_};
 ghost use lib.Ieee.{binary32, binary64, rem};
 ghost use Rattle.floats.specs.Remainder.{remEuclid};
-use super::choose::abs32;
-use super::choose::abs64;
-use super::choose::pick32;
-use super::choose::pick64;
+use choices::abs32;
+use choices::abs64;
+use choices::pick32;
+use choices::pick64;
 
 pub fn rem32(x: f32, m: f32) -> f32
     ensures { λ r. ⌜ r ≡ rem binary32 x m ⌝ }

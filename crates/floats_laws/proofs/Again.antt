@@ -8,10 +8,10 @@ use lib.Ieee.Scale.{finite}
 use lib.Ieee.Bits.{is-true}
 use borrow.Author.Tests.{le-ltb}
 use Rattle.lists.specs.Pick.{by-case}
-use Rattle.floats.specs.Choose.{clamp, abs}
+use Rattle.choices.specs.Choose.{clamp, abs}
 use Rattle.floats.specs.Remainder.{remEuclid}
-use Rattle.floats.proofs.Keys.{key, lt-key}
-use Rattle.floats.proofs.Rules.{le-left, le-right, le→key}
+use Rattle.floats_laws.proofs.Keys.{key, lt-key}
+use Rattle.floats_laws.proofs.Rules.{le-left, le-right, le→key}
 use Rattle.floats_laws.proofs.Rising.{nought}
 use Rattle.floats_laws.proofs.Euclid.{nought-fits}
 use Rattle.floats.proofs.Rem.{rem-inside}

@@ -13,9 +13,9 @@ use lib.Ieee.Nearest.{div-mono}
 use lib.Ieee.Order.{round-mono}
 use Rattle.casts.specs.Convert.{convert}
 use Rattle.casts.proofs.Values.{own-round}
-use Rattle.floats.proofs.Floor.{round-number}
+use Rattle.choices.proofs.Rounded.{round-number}
 use Rattle.floats_laws.proofs.Mono.{signed-key-rises, round-signed-key, le→signed, plus, minus}
-use Rattle.floats.proofs.Rules.{key→le, le-left, le-right}
+use Rattle.floats_laws.proofs.Rules.{key→le, le-left, le-right}
 use Rattle.floats_laws.proofs.Rising.{lowest, highest, le-refl, past-highest, not-lowest}
 use Rattle.floats_laws.proofs.Mag.{le-of}
 

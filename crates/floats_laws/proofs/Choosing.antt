@@ -5,9 +5,9 @@ use lib.Ieee.{Float, Format, lt, le, fits, isNan}
 use lib.Ieee.Bits.{is-false}
 use lib.Ieee.Fits.{cond-fits}
 use Rattle.lists.specs.Pick.{by-case}
-use Rattle.floats.specs.Choose.{max, min, clamp}
-use Rattle.floats.proofs.Floor.{cond-number}
-use Rattle.floats.proofs.Rules.{le-left, le-right, lt→le, not-lt→le}
+use Rattle.choices.specs.Choose.{max, min, clamp}
+use Rattle.choices.proofs.Rounded.{cond-number}
+use Rattle.floats_laws.proofs.Rules.{le-left, le-right, lt→le, not-lt→le}
 use Rattle.floats_laws.proofs.Rising.{le-refl}
 
 module _ (f : Format) where

@@ -8,11 +8,11 @@ use lib.IntN.{ℤ}
 use lib.Dec.{T}
 use lib.Ieee.{Float, nan, inf, fin, Format, neg, lt, le, fits, isNan}
 use Rattle.lists.specs.Pick.{by-case}
-use Rattle.floats.specs.Choose.{min}
-use Rattle.floats.proofs.Keys.{key, lt-key, le-key}
+use Rattle.choices.specs.Choose.{min}
+use Rattle.floats_laws.proofs.Keys.{key, lt-key, le-key}
 use Rattle.floats_laws.proofs.Mag.{Mag, Upto, le-upto}
 use Rattle.floats_laws.proofs.Rising.{nought, neg-falls, past-lowest, past-highest}
-use Rattle.floats.proofs.Rules.{le→key, key→le, le-left, le-right}
+use Rattle.floats_laws.proofs.Rules.{le→key, key→le, le-left, le-right}
 
 module _ (P : Float → Type 0) (x y : Float) (p : P x) (q : P y) where
   pub of-min : P (min x y)

@@ -15,9 +15,9 @@ use lib.Ieee.Nearest.{div-mono}
 use Rattle.floats.specs.Whole.{floor, ceil, cut, lift, Cut, Lifted, Whole, Floored, Ceiled}
 use Rattle.casts.proofs.Values.{fine, unique}
 use Rattle.floats.proofs.Floor.{kept, lift-le, ceil-is, floor-fits, floor-number}
-use Rattle.floats.proofs.Keys.{key}
+use Rattle.floats_laws.proofs.Keys.{key}
 use Rattle.floats_laws.proofs.Mono.{plus, minus, signedKey, signed-key-rises, round-signed-key, le→signed}
-use Rattle.floats.proofs.Rules.{key→le, le-left, le-right}
+use Rattle.floats_laws.proofs.Rules.{key→le, le-left, le-right}
 use Rattle.floats_laws.proofs.Rising.{le-refl, lowest, highest, past-lowest, past-highest, neg-falls}
 
 -- ---- the two quotients

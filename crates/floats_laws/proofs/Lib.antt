@@ -1,3 +1,5 @@
+pub mod Keys
+pub mod Rules
 pub mod Mono
 pub mod Integral
 pub mod Rising

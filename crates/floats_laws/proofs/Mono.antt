@@ -13,8 +13,8 @@ use lib.Ieee.Order as Order
 use lib.Ieee.Order.{round-mono}
 use lib.Ieee.Scale.{round-same}
 use Rattle.casts.proofs.Values.{own-round}
-use Rattle.floats.proofs.Floor.{round-number}
-use Rattle.floats.proofs.Keys.{over, mag, side, key, le-key}
+use Rattle.choices.proofs.Rounded.{round-number}
+use Rattle.floats_laws.proofs.Keys.{over, mag, side, key, le-key}
 
 -- ---- the sign of a rounded value is the one given
 odd-side : (f : Format) (d : ℕ) (s : Bool) (q k l : ℕ) → key f (odd d s q k l) ≡ side (over f) s (mag f (odd d false q k l))

@@ -18,8 +18,8 @@ use borrow.Author.Tests.{ltb-true, ltb-false}
 use Rattle.casts.specs.Convert.{convert, unitsIn, apart, Nearest, Rounded}
 use Rattle.casts.proofs.Values.{fine, steps}
 use Rattle.casts.proofs.Pack.{pattern, units-over, twice}
-use Rattle.floats.proofs.Keys.{mag-is}
-use Rattle.floats.proofs.Sign.{negative-is}
+use Rattle.floats_laws.proofs.Keys.{mag-is}
+use Rattle.choices.proofs.Sign.{negative-is}
 use Rattle.lists.specs.Pick.{by-case}
 use Rattle.floats_laws.proofs.Close.{Close, close, close-least, close-tie, eq-or-lt}
 

@@ -10,7 +10,7 @@ use lib.Ieee.Fits.{up-pos}
 use lib.Ieee.Scale.{finite}
 use lib.Ieee.Positive.{positive}
 use Rattle.casts.proofs.Sat.{no}
-use Rattle.floats.proofs.Floor.{round-number}
+use Rattle.choices.proofs.Rounded.{round-number}
 use Rattle.floats_laws.proofs.Rising.{nought}
 
 -- ---- a test `<` that passed

@@ -11,7 +11,7 @@ use lib.Ieee.Digits.{size-le}
 use lib.Ieee.Fits.{kept-lt, up-pos, down-pos}
 use lib.Ieee.Positive.{positive, positive-of-value}
 use Rattle.casts.proofs.Values.{fine}
-use Rattle.floats.proofs.Keys.{mag-under}
+use Rattle.floats_laws.proofs.Keys.{mag-under}
 use Rattle.casts.proofs.Pack.{twice}
 use Rattle.floats_laws.proofs.Patterns.{bits-value, val}
 use Rattle.floats_laws.proofs.ToBits.{bits-are}

@@ -9,9 +9,9 @@ use lib.Dec.{T}
 use lib.Ieee.{Float, nan, inf, fin, Format, up, down, unlike, round, mul, le, isNan, fits}
 use lib.Ieee.Fits.{down-pos, mul-fits}
 use lib.Ieee.Scale.{finite}
-use Rattle.floats.proofs.Keys.{key, over, side}
+use Rattle.floats_laws.proofs.Keys.{key, over, side}
 use Rattle.floats_laws.proofs.Mono.{round-side, rounded-size-zero}
-use Rattle.floats.proofs.Rules.{key→le, le-trans}
+use Rattle.floats_laws.proofs.Rules.{key→le, le-trans}
 use Rattle.floats_laws.proofs.Numbers.{mul-number}
 use Rattle.floats_laws.proofs.Rising.{nought, mul-rises}
 

@@ -20,7 +20,7 @@ use Rattle.floats_laws.proofs.Mag.{Mag, le-upto, mag-finite, mag-le}
 use Rattle.floats_laws.proofs.Numbers.{mul-number}
 use Rattle.floats_laws.proofs.Products.{product-from-zero, product-to-zero, mul-rises-right}
 use Rattle.floats_laws.proofs.Rising.{le-refl as float-refl, nought, add-rises, add-rises-right, sub-falls, mul-rises, neg-falls}
-use Rattle.floats.proofs.Rules.{between-finite, finite-number, neg-finite, add-number, key→le, le-trans as float-trans}
+use Rattle.floats_laws.proofs.Rules.{between-finite, finite-number, neg-finite, add-number, key→le, le-trans as float-trans}
 use Rattle.casts.proofs.Values.{own-round, neg-round}
 use Rattle.floats_laws.proofs.Grid.{AtMost, to-one, multiple-24, round-at-most}
 

@@ -10,7 +10,7 @@ use Rattle.lists.specs.Pick.{pick}
 use Rattle.floats.specs.Names.{f32, div32}
 use Rattle.floats_laws.proofs.Gap.{quotient-number}
 use Rattle.floats_laws.proofs.Rising.{nought, neg-falls, div-rises}
-use Rattle.floats.proofs.Rules.{finite-number, neg-finite, le-trans}
+use Rattle.floats_laws.proofs.Rules.{finite-number, neg-finite, le-trans}
 use Rattle.powers.specs.Power.{exp}
 use Rattle.powers.proofs.PowerLike.{in-unit}
 use Rattle.elementary_laws.proofs.PowerRises.{exp-like}

@@ -17,7 +17,7 @@ use lib.Ieee.Scale.{finite}
 use Rattle.lists.specs.Pick.{either}
 use Rattle.lists.specs.Table.{table-at}
 use Rattle.floats.specs.Names.{f32}
-use Rattle.floats.specs.Choose.{clamp}
+use Rattle.choices.specs.Choose.{clamp}
 use Rattle.floats_laws.proofs.Bounds.{add-mag, mul-mag}
 use Rattle.floats_laws.proofs.Choosing.{min-fits, clamp-least, clamp-fits}
 use Rattle.floats_laws.proofs.Held.{clamp-mag}
@@ -25,15 +25,15 @@ use Rattle.floats_laws.proofs.Mag.{Mag, mag-finite, within}
 use Rattle.floats_laws.proofs.Numbers.{mul-number}
 use Rattle.floats_laws.proofs.Products.{product-from-zero, mul-rises-right}
 use Rattle.floats_laws.proofs.Rising.{nought, add-rises-right, mul-rises}
-use Rattle.floats.proofs.Rules.{finite-number, add-number, lt→le, le-trans as float-trans}
+use Rattle.floats_laws.proofs.Rules.{finite-number, add-number, lt→le, le-trans as float-trans}
 use Rattle.floats_laws.proofs.Spans.{lt-le}
 use Rattle.floats_laws.proofs.Unit.{i, Unit, i-fits, nought-fits, one-unit, unit-finite, unit-mag, product-unit}
 use Rattle.draws.specs.Draws.{randomOf}
 use Rattle.draws.proofs.Unit.{random-in}
 use Rattle.elementary.specs.Log2.{log2Of}
-use Rattle.elementary.proofs.LogRises.{log2-within}
-use Rattle.pitch.specs.Octave.{registerOf}
-use Rattle.pitch.specs.Register as register
+use Rattle.elementary_laws.proofs.LogRises.{log2-within}
+use Rattle.octaves.specs.Octave.{registerOf}
+use Rattle.registers.specs.Register as register
 use Rattle.pitch_laws.proofs.Octaves.{WholeUpto, octave-whole}
 use Rattle.pitch_laws.proofs.Ranges.{strength-in}
 use Rattle.settings.specs.declared.Config.{Config}
@@ -41,8 +41,9 @@ use Rattle.settings.specs.declared.Direction.{Direction}
 use Rattle.settings.specs.declared.Direction.the-variants.{Forward, Reverse, Alternate}
 use Rattle.settings.specs.declared.Shape.{Shape}
 use Rattle.settings.specs.declared.Shape.the-variants.{Sprinkle, Cloud}
-use Rattle.settings.specs.Envelope.{sprinkleOf, cloudOf, cloudAttackOf, byShape, envelopeOf}
-use Rattle.settings.specs.Mending.{one, maxHop, lawfulRate, finiteOr, heldTo, mendedOf}
+use Rattle.envelopes.specs.Envelope.{sprinkleOf, cloudOf, cloudAttackOf, byShape, envelopeOf}
+use Rattle.settings.specs.Settings.{one, maxHop, lawfulRate}
+use Rattle.mending.specs.Mending.{finiteOr, heldTo, mendedOf}
 use Rattle.settings_laws.proofs.Again.{finite-or, or-fits}
 use Rattle.settings_laws.proofs.Lifetimes.{Formed, envelope-sound}
 use Rattle.voices.specs.declared.Voice.{Voice}

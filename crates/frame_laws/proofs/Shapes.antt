@@ -15,7 +15,7 @@ use lib.Ieee.Bits.{is-false, ofBits-toBits}
 use lib.Ieee.Scale.{finite}
 use lib.ListN.{getD}
 use Rattle.lists.specs.Pick.{by-case}
-use Rattle.floats.specs.Choose.{max}
+use Rattle.choices.specs.Choose.{max}
 use Rattle.floats_laws.proofs.Bounds.{add-mag}
 use Rattle.floats_laws.proofs.Choosing.{max-fits, max-right}
 use Rattle.floats_laws.proofs.Ends.{mag-between}
@@ -24,12 +24,12 @@ use Rattle.floats_laws.proofs.Mag.{Mag, le-of, mag-le}
 use Rattle.floats_laws.proofs.Patterns.{bits-mono}
 use Rattle.floats_laws.proofs.PositiveBits.{positive-under}
 use Rattle.floats_laws.proofs.Rising.{le-refl as float-refl, nought, not-above, not-itself, add-rises-right, div-rises}
-use Rattle.floats.proofs.Rules.{finite-number, lt→le, add-number, between-finite, le-trans as float-trans}
+use Rattle.floats_laws.proofs.Rules.{finite-number, lt→le, add-number, between-finite, le-trans as float-trans}
 use Rattle.floats_laws.proofs.Spans.{lt-le}
 use Rattle.casts.proofs.Values.{own-round}
 use Rattle.elementary.specs.Log2.{log2Of}
-use Rattle.elementary.proofs.LogExact.{log2-fits}
-use Rattle.elementary.proofs.LogRises.{least, most, log2-within}
+use Rattle.elementary_laws.proofs.LogExact.{log2-fits}
+use Rattle.elementary_laws.proofs.LogRises.{least, most, log2-within}
 use Rattle.pool.specs.declared.Particle.{Particle}
 use Rattle.windows.specs.Opening.{nil, one}
 use Rattle.places.specs.declared.Shown.{Shown}

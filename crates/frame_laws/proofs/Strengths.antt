@@ -16,7 +16,7 @@ use Rattle.lists.specs.Pick.{either}
 use Rattle.floats.specs.Names.{f64}
 use Rattle.casts.specs.Convert.{convert}
 use Rattle.floats_laws.proofs.Casting.{convert-number}
-use Rattle.floats.proofs.Floor.{round-number}
+use Rattle.choices.proofs.Rounded.{round-number}
 use Rattle.floats_laws.proofs.Gap.{quotient-number, one-number}
 use Rattle.floats_laws.proofs.Mag.{mag-finite, within}
 use Rattle.floats_laws.proofs.Rising.{nought, not-above}

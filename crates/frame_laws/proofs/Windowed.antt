@@ -12,7 +12,7 @@ use borrow.Author.Tests.{eqb-false, ltb-false}
 use Rattle.lists.specs.Pick.{pick, by-case, picked}
 use Rattle.floats_laws.proofs.Mag.{Mag, mag-finite}
 use Rattle.floats_laws.proofs.Rising.{nought}
-use Rattle.floats.proofs.Rules.{finite-number}
+use Rattle.floats_laws.proofs.Rules.{finite-number}
 use Rattle.powers.specs.Power.{exp2}
 use Rattle.elementary_laws.proofs.PowerValues.{power-fits}
 use Rattle.pool.specs.declared.Particle.{Particle}

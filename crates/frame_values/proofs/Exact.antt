@@ -4,7 +4,7 @@ use mathlib.Core.Path.{_≡_, ap}
 use native.Mathlib.Omega.{arith}
 use native.Mathlib.Nat.{mod-eq-of-lt}
 use lib.Ieee.{Float, toUnsigned}
-use Rattle.floats.specs.Word.{product}
+use Rattle.words.specs.Word.{product}
 use Rattle.frame_values.specs.Values.{millisecondsOf}
 
 whole-product : (n : ℕ) → n ≤ 1099511627776 → product n 1000 ≡ n * 1000

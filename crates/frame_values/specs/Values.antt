@@ -1,7 +1,7 @@
 -- What the line of an accepted frame says of the engine. Definitions only.
 use Prim.Native.Nat.{ℕ, _/_}
 use lib.Ieee.{Float, binary32, toBits, toUnsigned}
-use Rattle.floats.specs.Word.{product}
+use Rattle.words.specs.Word.{product}
 use Rattle.pool.specs.Pool.{activeCount}
 use Rattle.state.specs.declared.Engine.{Engine}
 use Rattle.frame_values.specs.declared.Values.{Values}

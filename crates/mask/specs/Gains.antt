@@ -8,7 +8,7 @@ use lib.Ieee.{Float, neg, le, eq}
 use Rattle.lists.specs.Pick.{pick}
 use Rattle.lists.specs.Table.{table}
 use Rattle.floats.specs.Names.{f32, sub32, mul32}
-use Rattle.floats.specs.Choose.{clamp}
+use Rattle.choices.specs.Choose.{clamp}
 use Rattle.powers.specs.Power.{dbToGain}
 use Rattle.refusals.specs.declared.Answer.{Answer}
 use Rattle.refusals.specs.declared.Answer.the-variants.{Taken, Refused}

@@ -13,14 +13,14 @@ use lib.Ieee.Fits.{sub-fits, mul-fits, cond-fits}
 use lib.Ieee.Scale.{finite}
 use Rattle.lists.specs.Pick.{by-case}
 use Rattle.lists.specs.Walk.{walk}
-use Rattle.floats.specs.Choose.{max, clamp, abs}
+use Rattle.choices.specs.Choose.{max, clamp, abs}
 use Rattle.floats_laws.proofs.Choosing.{max-fits, clamp-fits, clamp-most}
 use Rattle.floats_laws.proofs.Ends.{not-above, not-le→lt}
 use Rattle.floats_laws.proofs.Gap.{quotient-number, one-number}
 use Rattle.floats_laws.proofs.Products.{product-to-zero}
 use Rattle.floats_laws.proofs.Rising.{nought}
-use Rattle.floats.proofs.Rules.{lt→le, le-left, le-right, le-trans, add-number, neg-finite, finite-number}
-use Rattle.floats.proofs.Sign.{abs-number}
+use Rattle.floats_laws.proofs.Rules.{lt→le, le-left, le-right, le-trans, add-number, neg-finite, finite-number}
+use Rattle.choices.proofs.Sign.{abs-number}
 use Rattle.floats_laws.proofs.Units.{one as i, zero-fits, one-fits, unit}
 use Rattle.windows.specs.declared.Window.{Window}
 use Rattle.windows.specs.Opening.{nil, one, taperOf, insideOf, opennessOf, opening, openedBy}

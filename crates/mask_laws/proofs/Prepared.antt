@@ -21,8 +21,8 @@ use Rattle.lists.specs.All.{all, all-of}
 use Rattle.lists.specs.Pick.{passed, by-case}
 use Rattle.lists.specs.Table.{length-table, table-at}
 use Rattle.elementary.specs.Log2.{log2Of}
-use Rattle.elementary.proofs.LogExact.{log2-fits}
-use Rattle.elementary.proofs.LogRises.{log2-within, log2-rises}
+use Rattle.elementary_laws.proofs.LogExact.{log2-fits}
+use Rattle.elementary_laws.proofs.LogRises.{log2-within, log2-rises}
 use Rattle.floats.specs.Names.{mul32, div32}
 use Rattle.floats_laws.proofs.Bounds.{div-mag, of-upto}
 use Rattle.floats_laws.proofs.Casting.{whole-rises}
@@ -32,11 +32,11 @@ use Rattle.floats_laws.proofs.Mono.{le→signed}
 use Rattle.floats_laws.proofs.Numbers.{mul-number}
 use Rattle.floats_laws.proofs.Powers.{mul-power, of-power}
 use Rattle.floats_laws.proofs.Rising.{nought, mul-rises}
-use Rattle.floats.proofs.Rules.{lt→le, le-trans as le-through}
+use Rattle.floats_laws.proofs.Rules.{lt→le, le-trans as le-through}
 use Rattle.floats_laws.proofs.Spans.{least-above}
 use Rattle.floats_laws.proofs.Through.{lt-le}
 use Rattle.floats_laws.proofs.Units.{one as i, zero-fits, one-times}
-use Rattle.settings.specs.Mending.{lawfulRate}
+use Rattle.settings.specs.Settings.{lawfulRate}
 use Rattle.windows.specs.Opening.{nil}
 use Rattle.bin_tables.specs.Bins.{asFloat, logAt, logsOf}
 use Rattle.bin_tables.specs.Logs.{lawfulAt, lawfulLogs}

@@ -12,12 +12,12 @@ use lib.Ieee as Ieee
 use lib.Ieee.Fits.{up-pos, down-pos, add-fits, sub-fits, div-fits, neg-fits}
 use lib.Ieee.Scale.{finite, round-same}
 use Rattle.lists.specs.Pick.{by-case}
-use Rattle.floats.specs.Choose.{clamp, abs}
+use Rattle.choices.specs.Choose.{clamp, abs}
 use Rattle.casts.proofs.Values.{own-round, same-fin}
 use Rattle.floats_laws.proofs.Ends.{not-le→lt}
 use Rattle.floats_laws.proofs.Mono.{le→signed}
 use Rattle.floats_laws.proofs.Rising.{nought, neg-falls, not-above, not-itself}
-use Rattle.floats.proofs.Rules.{neg-finite, add-number, finite-number}
+use Rattle.floats_laws.proofs.Rules.{neg-finite, add-number, finite-number}
 use Rattle.floats_laws.proofs.Gap.{gap-below, gap-above, div-one, one-less}
 use Rattle.floats_laws.proofs.Units.{one as i, zero-fits}
 use Rattle.windows.specs.declared.Window.{Window}

@@ -14,7 +14,7 @@ use lib.Ieee.Fits.{and-l, and-r}
 use lib.Ieee.Scale.{finite}
 use Rattle.lists.specs.All.{all-at}
 use Rattle.floats_laws.proofs.Rising.{le-refl}
-use Rattle.floats.proofs.Rules.{le-trans, not-lt→le, finite-number}
+use Rattle.floats_laws.proofs.Rules.{le-trans, not-lt→le, finite-number}
 use Rattle.floats_laws.proofs.Through.{le-lt}
 use Rattle.bin_tables.specs.Logs.{lawfulAt, lawfulLogs}
 use Rattle.openings.specs.Walk.{Sorted}

@@ -10,9 +10,9 @@ use lib.Ieee.{Float, nan, ofBits, lt, le, isNan}
 use lib.Ieee.Bits.{is-false}
 use Rattle.lists.specs.Pick.{by-case}
 use Rattle.lists.specs.Table.{table, length-table, table-at}
-use Rattle.floats.specs.Choose.{max}
-use Rattle.floats.proofs.Floor.{cond-number}
-use Rattle.floats.proofs.Rules.{lt→le, le-right}
+use Rattle.choices.specs.Choose.{max}
+use Rattle.choices.proofs.Rounded.{cond-number}
+use Rattle.floats_laws.proofs.Rules.{lt→le, le-right}
 use Rattle.windows.specs.declared.Window.{Window}
 use Rattle.windows.specs.Opening.{nil, opennessOf}
 use Rattle.openings.specs.Opened.{touches, raisedOf}

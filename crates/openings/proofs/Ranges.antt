@@ -12,7 +12,7 @@ use lib.Seq.{getD-set-same, getD-set-other}
 use lib.Ieee.{Float, nan, lt, le}
 use Rattle.lists.specs.Pick.{by-case}
 use Rattle.floats.specs.Names.{add32, sub32}
-use Rattle.floats.specs.Choose.{max}
+use Rattle.choices.specs.Choose.{max}
 use Rattle.windows.specs.declared.Window.{Window}
 use Rattle.windows.specs.Opening.{nil, opennessOf}
 use Rattle.openings.specs.Opened.{touches, raisedOf}

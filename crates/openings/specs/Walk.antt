@@ -6,7 +6,7 @@ use mathlib.Core.List.{List}
 use lib.Dec.{T}
 use lib.ListN.{length, getD}
 use lib.Ieee.{Float, nan, binary32, lt, le, fits, isNan}
-use Rattle.floats.specs.Choose.{max}
+use Rattle.choices.specs.Choose.{max}
 use Rattle.windows.specs.declared.Window.{Window}
 use Rattle.windows.specs.Opening.{opennessOf}
 use Rattle.openings.specs.Opened.{raisedOf}

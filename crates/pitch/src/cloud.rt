@@ -16,21 +16,21 @@ fn ramp(lower: f32) -> f32
 fn slope(ramp: f32) -> f32
     ensures { λ r. ⌜ r ≡ slopeOf ramp ⌝ }
 {
-    (1.0 - crate::PARTICLE_LOW_PROBABILITY) / ramp
+    (1.0 - registers::PARTICLE_LOW_PROBABILITY) / ramp
 }
 
 // What lies below the end of the ramp, or of the range where that is lower.
 fn mass(slope: f32, end: f32) -> f32
     ensures { λ r. ⌜ r ≡ massOf slope end ⌝ }
 {
-    crate::PARTICLE_LOW_PROBABILITY * end + 0.5 * slope * end * end
+    registers::PARTICLE_LOW_PROBABILITY * end + 0.5 * slope * end * end
 }
 
 // Where the density's integral reaches the target within the ramp.
 fn in_ramp(slope: f32, target: f32) -> f32
     ensures { λ r. ⌜ r ≡ inRamp slope target ⌝ }
 {
-    let low = crate::PARTICLE_LOW_PROBABILITY;
+    let low = registers::PARTICLE_LOW_PROBABILITY;
     let root = elementary::sqrt(low * low + 2.0 * slope * target);
     2.0 * target / (low + root)
 }
@@ -47,7 +47,7 @@ fn offset(slope: f32, ramp: f32, mass: f32, target: f32) -> f32
 pub fn free_cloud_frequency(index: u64, max_hz: f32) -> f32
     ensures { λ r. ⌜ r ≡ frequencyOf index «max_hz» ⌝ }
 {
-    let lower = crate::registers::log_of_lower(floats::min32(crate::PARTICLE_MIN_HZ, max_hz * 0.5));
+    let lower = registers::log_of_lower(floats::min32(registers::PARTICLE_MIN_HZ, max_hz * 0.5));
     let span = elementary::log2(max_hz) - lower;
     let ramp = ramp(lower);
     let slope = slope(ramp);

@@ -12,7 +12,7 @@ use lib.Ieee.Scale.{finite}
 use denote.Floats.{passes}
 use Rattle.lists.specs.Pick.{pick, by-case}
 use Rattle.floats.specs.Names.{f32, add32, sub32, mul32}
-use Rattle.floats.specs.Choose.{max, min}
+use Rattle.choices.specs.Choose.{max, min}
 use Rattle.floats_laws.proofs.Bounds.{add-mag, sub-mag, mul-mag, div-mag, max-mag}
 use Rattle.floats_laws.proofs.Choosing.{max-right, min-fits, min-right}
 use Rattle.floats_laws.proofs.Ends.{of-min, not-above}
@@ -20,21 +20,21 @@ use Rattle.floats_laws.proofs.Mag.{Mag, Upto, Least, le-upto, least-up, mag-le,
 use Rattle.floats_laws.proofs.Numbers.{mul-number}
 use Rattle.floats_laws.proofs.Products.{product-from-zero}
 use Rattle.floats_laws.proofs.Rising.{nought, add-rises-right, mul-rises, neg-falls, sub-rises}
-use Rattle.floats.proofs.Rules.{add-number, between-finite, finite-number, le-left, le-right, le-trans, lt→le}
+use Rattle.floats_laws.proofs.Rules.{add-number, between-finite, finite-number, le-left, le-right, le-trans, lt→le}
 use Rattle.floats_laws.proofs.Spans.{lt-le}
 use Rattle.draws.specs.Draws.{randomOf}
 use Rattle.draws.proofs.Unit.{random-in}
 use Rattle.elementary.specs.Log2.{log2Of}
 use Rattle.powers.specs.Power.{exp2}
 use Rattle.elementary.specs.Sqrt.{sqrtOf}
-use Rattle.elementary.proofs.LogRises.{log2-rises}
+use Rattle.elementary_laws.proofs.LogRises.{log2-rises}
 use Rattle.elementary_laws.proofs.PowerRises.{exp2-like}
 use Rattle.elementary_laws.proofs.PowerValues.{exp2-exact, power-fits}
 use Rattle.elementary_laws.proofs.RootRises.{lowest, lowest-root, highest-root, sqrt-fits, sqrt-window}
-use Rattle.settings.specs.Mending.{lawfulRate}
-use Rattle.pitch.specs.Register.{nil, half, minHz, lowProbability}
+use Rattle.settings.specs.Settings.{lawfulRate}
+use Rattle.registers.specs.Register.{nil, half, minHz, lowProbability}
 use Rattle.pitch.specs.Cloud.{two, lowerOf, inRamp, offsetOf, frequencyOf}
-use Rattle.pitch.proofs.Logs.{log-of-min}
+use Rattle.registers.proofs.Logs.{log-of-min}
 use Rattle.pitch_laws.proofs.Ramp.{leastHz, mostHz, low, ramp, slope, mass, halved, ramp-is, slope-is, mass-is, least-log, most-log, square-is, double-is, least-divisor, looked}
 
 -- ---- the lower end and the span

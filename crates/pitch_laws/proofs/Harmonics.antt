@@ -17,10 +17,10 @@ use lib.Ieee.Fits.{ofInt-fits}
 use Rattle.lists.specs.Pick.{pick, by-case}
 use Rattle.lists.specs.Table.{table, table-at, length-table}
 use Rattle.floats_laws.proofs.Casting.{whole-rises}
-use Rattle.floats.proofs.Keys.{key, le-key, lt-key}
-use Rattle.floats.proofs.Rules.{le-right, le-trans}
+use Rattle.floats_laws.proofs.Keys.{key, le-key, lt-key}
+use Rattle.floats_laws.proofs.Rules.{le-right, le-trans}
 use Rattle.draws.specs.Draws.{randomOf}
-use Rattle.pitch.specs.Register.{nil, one}
+use Rattle.registers.specs.Register.{nil, one}
 use Rattle.harmonics.specs.Partials.{asFloat, countOf, keptOf, allowedOf, drawnOf, partialsOf}
 use Rattle.pitch_laws.proofs.Picks.{Drawable, Chosen, chosen-drawn, nil-gone}
 use Rattle.harmonics.proofs.Turns.{count-most, length-drawn}

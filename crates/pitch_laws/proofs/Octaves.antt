@@ -14,7 +14,7 @@ use lib.Ieee.Exact.{HasValue}
 use lib.Ieee.Scale.{finite}
 use Rattle.lists.specs.Pick.{by-case, either}
 use Rattle.floats.specs.Names.{f32, add32, sub32, mul32}
-use Rattle.floats.specs.Choose.{max}
+use Rattle.choices.specs.Choose.{max}
 use Rattle.floats.specs.Whole.{floor, ceil}
 use Rattle.floats_laws.proofs.Bounds.{sub-mag}
 use Rattle.floats_laws.proofs.Choosing.{max-fits, min-fits, max-right, min-left}
@@ -23,18 +23,19 @@ use Rattle.floats_laws.proofs.Integral.{floor-is, ceil-is-up}
 use Rattle.floats_laws.proofs.Mag.{Mag, Upto}
 use Rattle.floats_laws.proofs.Numbers.{mul-number}
 use Rattle.floats_laws.proofs.Rising.{nought, mul-rises}
-use Rattle.floats.proofs.Rules.{le-right, le-trans, between-finite}
+use Rattle.floats_laws.proofs.Rules.{le-right, le-trans, between-finite}
 use Rattle.elementary.specs.Rung.{rungOf, digitsOf}
-use Rattle.elementary.specs.Log2.{tops, topOf, slopes, slopeOf, bends, bendOf, fallOf, cellOf, fractionOf, joinedOf, logOf, log2Of}
+use Rattle.parabolas.specs.Parabolas.{tops, topOf, slopes, slopeOf, bends, bendOf}
+use Rattle.elementary.specs.Log2.{fallOf, cellOf, fractionOf, joinedOf, logOf, log2Of}
 use Rattle.floats_laws.proofs.Spans.{lt-le}
-use Rattle.elementary.proofs.LogExact.{log2-fits}
-use Rattle.elementary.proofs.LogRises.{least, most, log2-rises, log2-within}
-use Rattle.pitch.specs.Register.{nil, half, one, minHz}
+use Rattle.elementary_laws.proofs.LogExact.{log2-fits}
+use Rattle.elementary_laws.proofs.LogRises.{least, most, log2-rises, log2-within}
+use Rattle.registers.specs.Register.{nil, half, one, minHz}
 use Rattle.harmonics.specs.Partials.{asFloat}
-use Rattle.pitch.specs.Octave.{upwardOf, lastOf, chosenFrom, chosenOf, firstOf, octavesOf, octaveOf, upperOf, lowerOf, registerOf}
+use Rattle.octaves.specs.Octave.{upwardOf, lastOf, chosenFrom, chosenOf, firstOf, octavesOf, drawnOf, octaveOf, upperOf, lowerOf, registerOf}
 use Rattle.settings.specs.declared.Direction.{Direction}
 use Rattle.pitch_laws.proofs.Harmonics.{one-is}
-use Rattle.pitch.proofs.Logs.{log-of-min, log-of-top}
+use Rattle.registers.proofs.Logs.{log-of-min, log-of-top}
 use Rattle.floats_laws.proofs.Wholes.{At, at-sum, at-difference, at-whole, at-word, at-not-below}
 
 -- ---- the range
@@ -215,7 +216,7 @@ stepped first j k c p h l g u =
 
 octave-of : (index : ℕ) (rootLog lower upper : Float) (upward : Bool) → T (fits binary32 rootLog) → Mag rootLog 149 → Mag (log2Of lower) 5 → Mag (log2Of upper) 13
     → WholeUpto 256 (octaveOf index rootLog lower upper upward)
-unfolding octaveOf firstOf octavesOf chosenOf
+unfolding octaveOf firstOf octavesOf drawnOf chosenOf
 octave-of index rootLog lower upper upward f r a b =
     let p = near-ceil (sub32 (log2Of lower) rootLog) 154 (sub-fits binary32 (log2Of lower) rootLog) (lit≤ tt) (sub-mag binary32 (log2Of lower) rootLog 5 149 (lit≤ tt) a r) in
     let q = near-floor (sub32 (log2Of upper) rootLog) 162 (sub-fits binary32 (log2Of upper) rootLog) (lit≤ tt) (sub-mag binary32 (log2Of upper) rootLog 13 149 (lit≤ tt) b r) in

@@ -13,7 +13,7 @@ use lib.Ieee.{Float, nan, lt, le, eq, ofBits, ofFields, odd}
 use Rattle.floats.specs.Names.{sub32, mul32}
 use Rattle.lists.specs.Pick.{pick, by-case}
 use Rattle.draws.specs.Draws.{randomOf}
-use Rattle.pitch.specs.Register.{nil}
+use Rattle.registers.specs.Register.{nil}
 use Rattle.harmonics.specs.Partials.{sumOf, harmonicFrom, harmonicOf, withoutOf, drawnFrom}
 use Rattle.harmonics.proofs.Turns.{length-without}
 

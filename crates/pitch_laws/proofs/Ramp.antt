@@ -6,15 +6,16 @@ use lib.Dec.{T}
 use lib.Ieee.{Float, isNan, lt, le, eq, toBits, round, sum, add, sub, neg, mul, div, ofInt, ofBits, ofFields, size, span, climb, units, odd}
 use lib.Ieee.Scale.{finite}
 use Rattle.floats.specs.Names.{f32, add32, sub32, mul32}
-use Rattle.floats.specs.Choose.{max}
+use Rattle.choices.specs.Choose.{max}
 use Rattle.floats_laws.proofs.Rising.{nought}
 use Rattle.elementary.specs.Rung.{rungOf, digitsOf}
-use Rattle.elementary.specs.Log2.{tops, topOf, slopes, slopeOf, bends, bendOf, fallOf, cellOf, fractionOf, joinedOf, logOf, log2Of}
+use Rattle.parabolas.specs.Parabolas.{tops, topOf, slopes, slopeOf, bends, bendOf}
+use Rattle.elementary.specs.Log2.{fallOf, cellOf, fractionOf, joinedOf, logOf, log2Of}
 use Rattle.elementary_laws.proofs.RootRises.{lowest, lowest-root}
-use Rattle.pitch.specs.Register.{nil, half, minHz, lowProbability}
+use Rattle.registers.specs.Register.{nil, half, minHz, lowProbability}
 use Rattle.pitch.specs.Cloud.{two, rampOf, massOf}
 use Rattle.pitch.specs.Cloud as cloud
-use Rattle.pitch.proofs.Logs.{log-of-full}
+use Rattle.registers.proofs.Logs.{log-of-full}
 
 -- 4,000 and 20,000 Hz; log2 of 20; log2 of 22; the ramp's slope and its mass
 abbrev pub leastHz : Float

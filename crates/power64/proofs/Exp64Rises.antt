@@ -16,7 +16,7 @@ use Rattle.floats_laws.proofs.Mono.{le→signed}
 use Rattle.floats_laws.proofs.Naturals.{sum-rises, div-rises, shifted-less}
 use Rattle.floats_laws.proofs.PatternOrder.{patterns-rise, bits-under, sizes-rise}
 use Rattle.casts.proofs.Sat.{no}
-use Rattle.floats.proofs.Sign.{negative-is}
+use Rattle.choices.proofs.Sign.{negative-is}
 use Rattle.powers.specs.Placed.{edged, placed, placed64}
 use Rattle.power64.specs.Exp64.{scaled, sided, high, expMantissa, expBits, exp64}
 use Rattle.powers.proofs.Edges.{Inside, edged-rises}

@@ -8,7 +8,7 @@ use lib.Ieee.Compare.{differs-from-itself}
 use lib.Ieee.Bits.{is-false}
 use Rattle.casts.proofs.Facts.{ne-self}
 use Rattle.floats_laws.proofs.Numbers.{lt-left-number}
-use Rattle.floats.proofs.Rules.{le-left, le-right}
+use Rattle.floats_laws.proofs.Rules.{le-left, le-right}
 use Rattle.floats_laws.proofs.Rising.{highest}
 use Rattle.floats_laws.proofs.Through.{le-lt, lt-le}
 use Rattle.casts.proofs.Sat.{no}

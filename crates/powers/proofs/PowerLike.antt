@@ -4,7 +4,7 @@ use mathlib.Core.Bool.{true, false, not}
 use lib.IntN.{pos}
 use lib.Dec.{T}
 use lib.Ieee.{Float, nan, inf, fin, le, isNan}
-use Rattle.floats.proofs.Rules.{le-left}
+use Rattle.floats_laws.proofs.Rules.{le-left}
 use Rattle.floats_laws.proofs.Rising.{lowest}
 
 abbrev pub nought : Float

@@ -1,23 +1,23 @@
 // Single layers handed over on numbers, for the comparison with the Rust alone.
 ghost use Rattle.draws.specs.Draws.{keyOf, mixOf, randomOf, streamOf};
-ghost use Rattle.floats.specs.Choose.{max, min, clamp, abs};
+ghost use Rattle.choices.specs.Choose.{max, min, clamp, abs};
 ghost use Rattle.casts.specs.Convert.{convert};
 ghost use Rattle.floats.specs.Remainder.{remEuclid};
 ghost use Rattle.floats.specs.Whole.{floor, ceil};
 ghost use Rattle.floats.specs.Names.{f32};
-ghost use Rattle.floats.specs.Word.{product, rotated};
+ghost use Rattle.words.specs.Word.{product, rotated};
 ghost use lib.Ieee.Scale.{finite};
 ghost use lib.Ieee.{binary32, binary64, ofBits, toBits, ofInt, toUnsigned, rem};
 ghost use lib.IntN.{pos};
 ghost use Prim.Native.Nat.{_<_};
 ghost use mathlib.Core.Path.{_≡_};
 ghost use Rattle.probe.specs.Numbers.{shapeOf, directionOf, configOf, sampledOf, weightOf, weightsOf, packedOf};
-ghost use Rattle.pitch.specs.Register.{heightOf, strengthOf, probabilityOf};
+ghost use Rattle.registers.specs.Register.{heightOf, strengthOf, probabilityOf};
 ghost use Rattle.pitch.specs.Cloud.{frequencyOf};
-ghost use Rattle.pitch.specs.Octave.{registerOf};
+ghost use Rattle.octaves.specs.Octave.{registerOf};
 ghost use Rattle.harmonics.specs.Partials.{partialsOf as partialsBy};
-ghost use Rattle.settings.specs.Mending.{attackOf, releaseMsOf, partialsOf, rolloffOf, rateOf, sizeOf, phaseOf, mendedOf};
-ghost use Rattle.settings.specs.Envelope.{envelopeOf};
+ghost use Rattle.mending.specs.Mending.{attackOf, releaseMsOf, partialsOf, rolloffOf, rateOf, sizeOf, phaseOf, mendedOf};
+ghost use Rattle.envelopes.specs.Envelope.{envelopeOf};
 ghost use Rattle.timing.specs.Streams.{preparedOf, alignedOf, referenceOf};
 use settings::Config;
 use settings::Direction;
@@ -316,7 +316,7 @@ fn config_of(
 pub extern "C" fn rk_probe_mended_rate(x: f32) -> f32
     ensures { λ r. ⌜ r ≡ rateOf x ⌝ }
 {
-    let mended = settings::mended(config_of(0, 0, x, 1.0, 0.0, 0, 1, 6.0, 0.0, 70.0));
+    let mended = mending::mended(config_of(0, 0, x, 1.0, 0.0, 0, 1, 6.0, 0.0, 70.0));
     mended.rate_hz
 }
 
@@ -324,7 +324,7 @@ pub extern "C" fn rk_probe_mended_rate(x: f32) -> f32
 pub extern "C" fn rk_probe_mended_size(x: f32) -> f32
     ensures { λ r. ⌜ r ≡ sizeOf x ⌝ }
 {
-    let mended = settings::mended(config_of(0, 0, 1.0, x, 0.0, 0, 1, 6.0, 0.0, 70.0));
+    let mended = mending::mended(config_of(0, 0, 1.0, x, 0.0, 0, 1, 6.0, 0.0, 70.0));
     mended.size_octaves
 }
 
@@ -332,7 +332,7 @@ pub extern "C" fn rk_probe_mended_size(x: f32) -> f32
 pub extern "C" fn rk_probe_mended_phase(x: f32) -> f32
     ensures { λ r. ⌜ r ≡ phaseOf x ⌝ }
 {
-    let mended = settings::mended(config_of(0, 0, 1.0, 1.0, x, 0, 1, 6.0, 0.0, 70.0));
+    let mended = mending::mended(config_of(0, 0, 1.0, 1.0, x, 0, 1, 6.0, 0.0, 70.0));
     mended.phase
 }
 
@@ -340,7 +340,7 @@ pub extern "C" fn rk_probe_mended_phase(x: f32) -> f32
 pub extern "C" fn rk_probe_mended_rolloff(x: f32) -> f32
     ensures { λ r. ⌜ r ≡ rolloffOf x ⌝ }
 {
-    let mended = settings::mended(config_of(0, 0, 1.0, 1.0, 0.0, 0, 1, x, 0.0, 70.0));
+    let mended = mending::mended(config_of(0, 0, 1.0, 1.0, 0.0, 0, 1, x, 0.0, 70.0));
     mended.partial_rolloff_db
 }
 
@@ -348,7 +348,7 @@ pub extern "C" fn rk_probe_mended_rolloff(x: f32) -> f32
 pub extern "C" fn rk_probe_mended_attack(x: f32) -> f32
     ensures { λ r. ⌜ r ≡ attackOf x ⌝ }
 {
-    let mended = settings::mended(config_of(0, 0, 1.0, 1.0, 0.0, 0, 1, 6.0, x, 70.0));
+    let mended = mending::mended(config_of(0, 0, 1.0, 1.0, 0.0, 0, 1, 6.0, x, 70.0));
     mended.attack_ms
 }
 
@@ -356,7 +356,7 @@ pub extern "C" fn rk_probe_mended_attack(x: f32) -> f32
 pub extern "C" fn rk_probe_mended_release(x: f32) -> f32
     ensures { λ r. ⌜ r ≡ releaseMsOf x ⌝ }
 {
-    let mended = settings::mended(config_of(0, 0, 1.0, 1.0, 0.0, 0, 1, 6.0, 0.0, x));
+    let mended = mending::mended(config_of(0, 0, 1.0, 1.0, 0.0, 0, 1, 6.0, 0.0, x));
     mended.release_ms
 }
 
@@ -364,7 +364,7 @@ pub extern "C" fn rk_probe_mended_release(x: f32) -> f32
 pub extern "C" fn rk_probe_mended_partials(n: u32) -> u64
     ensures { λ r. ⌜ r ≡ partialsOf n ⌝ }
 {
-    let mended = settings::mended(config_of(0, 0, 1.0, 1.0, 0.0, 0, n, 6.0, 0.0, 70.0));
+    let mended = mending::mended(config_of(0, 0, 1.0, 1.0, 0.0, 0, n, 6.0, 0.0, 70.0));
     mended.partials as u64
 }
 
@@ -384,7 +384,7 @@ pub extern "C" fn rk_probe_lifetime(
     ensures { λ r. ⌜ r ≡ envelopeOf (mendedOf (configOf kind way rate size (f32 0) hop 1 (f32 0x40c00000) attack release)) index «sample_rate» .lifetime ⌝ }
 {
     let config = config_of(kind, way, rate, size, 0.0, hop, 1, 6.0, attack, release);
-    let contour = settings::envelope(settings::mended(config), index, sample_rate);
+    let contour = envelopes::envelope(mending::mended(config), index, sample_rate);
     contour.lifetime
 }
 
@@ -403,7 +403,7 @@ pub extern "C" fn rk_probe_attack(
     ensures { λ r. ⌜ r ≡ envelopeOf (mendedOf (configOf kind way rate size (f32 0) hop 1 (f32 0x40c00000) attack release)) index «sample_rate» .attack ⌝ }
 {
     let config = config_of(kind, way, rate, size, 0.0, hop, 1, 6.0, attack, release);
-    let contour = settings::envelope(settings::mended(config), index, sample_rate);
+    let contour = envelopes::envelope(mending::mended(config), index, sample_rate);
     contour.attack
 }
 

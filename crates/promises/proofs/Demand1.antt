@@ -14,7 +14,7 @@ use Rattle.refusals.specs.declared.Refusal.{Refusal}
 use Rattle.refusals.specs.declared.Refusal.the-variants.{Rate, Slot, Size, Elapsed, Lengths, Logs, Tag, Cut, Value, Place, Script}
 use Rattle.refusals.specs.Numbers.{numberOf, answerOf}
 use Rattle.settings.specs.declared.Config.{Config}
-use Rattle.settings.specs.Mending.{checkedOf, lawfulRate}
+use Rattle.settings.specs.Settings.{checkedOf, lawfulRate}
 use Rattle.state.specs.declared.Engine.{Engine}
 use Rattle.state.specs.State.{taken, refused}
 use Rattle.engine.specs.New.{newEngineOf}

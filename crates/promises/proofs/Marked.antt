@@ -11,17 +11,17 @@ use Rattle.lists.specs.Pick.{pick, picked, passed, either}
 use Rattle.lists.specs.Table.{from}
 use Rattle.lists.specs.Walk.{walk}
 use Rattle.floats.specs.Names.{f32, f64, sub32, mul32}
-use Rattle.floats.specs.Choose.{clamp, abs}
+use Rattle.choices.specs.Choose.{clamp, abs}
 use Rattle.floats.specs.Remainder.{remEuclid}
-use Rattle.floats.specs.Word.{product}
+use Rattle.words.specs.Word.{product}
 use Rattle.draws.specs.Draws.{mixOf, keyOf, randomOf}
 use Rattle.elementary.specs.Rung.{rungOf, digitsOf}
 use Rattle.elementary.specs.Sqrt.{scaledOf, rootBits, sqrtOf}
 use Rattle.elementary.proofs.Squares.{root-is, perfect}
-use Rattle.pitch.specs.Register.{nil}
+use Rattle.registers.specs.Register.{nil}
 use Rattle.harmonics.specs.Partials.{countOf, keptOf, allowedOf, sumOf, harmonicFrom, harmonicOf, withoutOf, drawnFrom, drawnOf, partialsOf}
 use Rattle.pitch_laws.proofs.Harmonics.{no-room}
-use Rattle.settings.specs.Mending.{finiteOr, phaseOf}
+use Rattle.mending.specs.Mending.{finiteOr, phaseOf}
 use Rattle.state.specs.declared.Engine.{Engine}
 use Rattle.changes.specs.Changes.{retiredAll, aligned, soughtPhase, soughtOf}
 use Rattle.windows.specs.Opening.{cubic, taperOf, insideOf, opennessOf}

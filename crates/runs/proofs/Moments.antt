@@ -17,7 +17,8 @@ use Rattle.refusals.specs.declared.Answer.{Answer}
 use Rattle.settings.specs.declared.Config.{Config}
 use Rattle.settings.specs.declared.Shape.{Shape}
 use Rattle.settings.specs.declared.Shape.the-variants.{Sprinkle, Cloud}
-use Rattle.settings.specs.Mending.{maxHop, checkedOf, mendedOf}
+use Rattle.settings.specs.Settings.{maxHop, checkedOf}
+use Rattle.mending.specs.Mending.{mendedOf}
 use Rattle.settings_laws.proofs.Lifetimes as lifetimes
 use Rattle.sources.specs.Sources.{isPitched}
 use Rattle.state.specs.declared.Engine.{Engine}

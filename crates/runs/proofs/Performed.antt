@@ -13,7 +13,8 @@ use Rattle.refusals.specs.declared.Answer.the-variants.{Taken, Refused}
 use Rattle.settings.specs.declared.Config.{Config}
 use Rattle.settings.specs.declared.Shape.{Shape}
 use Rattle.settings.specs.declared.Shape.the-variants.{Sprinkle, Cloud}
-use Rattle.settings.specs.Mending.{checkedOf, mendedOf}
+use Rattle.settings.specs.Settings.{checkedOf}
+use Rattle.mending.specs.Mending.{mendedOf}
 use Rattle.state.specs.declared.Done.{Done}
 use Rattle.state.specs.declared.Engine.{Engine}
 use Rattle.triggers.specs.declared.Triggered.{Triggered}

@@ -20,8 +20,9 @@ use Rattle.pool.specs.declared.Retired.the-variants.{Not, At}
 use Rattle.settings.specs.declared.Config.{Config}
 use Rattle.settings.specs.declared.Shape.{Shape}
 use Rattle.settings.specs.declared.Shape.the-variants.{Sprinkle, Cloud}
-use Rattle.settings.specs.Envelope.{envelopeOf}
-use Rattle.settings.specs.Mending.{maxHop, lawfulRate, mendedOf}
+use Rattle.envelopes.specs.Envelope.{envelopeOf}
+use Rattle.settings.specs.Settings.{maxHop, lawfulRate}
+use Rattle.mending.specs.Mending.{mendedOf}
 use Rattle.settings_laws.proofs.Lifetimes as lifetimes
 use Rattle.settings_laws.proofs.Lifetimes.{ten, envelope-sound}
 use Rattle.sources.specs.declared.Source.{Source}

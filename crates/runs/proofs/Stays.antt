@@ -12,13 +12,14 @@ use lib.Ieee.{Float, binary32, fits, ofBits, ofFields, rem, add, sum, round, le,
 use lib.Ieee.Bits.{ofBits-fits}
 use Rattle.lists.specs.Pick.{pick, either}
 use Rattle.floats.specs.Names.{f32}
-use Rattle.floats.specs.Choose.{clamp, abs}
+use Rattle.choices.specs.Choose.{clamp, abs}
 use Rattle.floats.specs.Remainder.{remEuclid}
 use Rattle.pool.specs.declared.Particle.{Particle}
 use Rattle.pool.specs.Pool.{freeParticle, retireBoundOne, retuneOne}
 use Rattle.refusals.specs.declared.Answer.{Answer}
 use Rattle.settings.specs.declared.Config.{Config}
-use Rattle.settings.specs.Mending.{isSprinkle, maxHop, defaultConfig, checkedOf, lawfulRate, finiteOr, heldTo, partialsOf, phaseOf, mendedOf}
+use Rattle.settings.specs.Settings.{isSprinkle, maxHop, defaultConfig, checkedOf, lawfulRate}
+use Rattle.mending.specs.Mending.{finiteOr, heldTo, partialsOf, phaseOf, mendedOf}
 use Rattle.settings_laws.proofs.Lifetimes as lifetimes
 use Rattle.sources.specs.declared.Source.{Source}
 use Rattle.sources.specs.Sources.{noSource, isPitched, releasedOf}

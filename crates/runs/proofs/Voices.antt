@@ -10,12 +10,12 @@ use lib.Ieee.Fits.{mul-fits}
 use lib.Ieee.Scale.{finite}
 use Rattle.lists.specs.Pick.{pick}
 use Rattle.floats.specs.Names.{f32, f64, mul32, div64}
-use Rattle.floats.specs.Choose.{min}
+use Rattle.choices.specs.Choose.{min}
 use Rattle.floats.specs.Whole.{floor}
 use Rattle.floats_laws.proofs.Choosing.{clamp-fits, clamp-least, clamp-most}
 use Rattle.floats_laws.proofs.Products.{mul-rises-right}
 use Rattle.floats_laws.proofs.Rising.{nought}
-use Rattle.floats.proofs.Rules.{between-finite, finite-number, lt→le}
+use Rattle.floats_laws.proofs.Rules.{between-finite, finite-number, lt→le}
 use Rattle.floats_laws.proofs.Spans.{lt-le}
 use Rattle.floats_laws.proofs.Unit.{i, i-fits, nought-fits, one-unit}
 use Rattle.draws.specs.Draws.{randomOf}
@@ -29,7 +29,7 @@ use Rattle.pitch.specs.Cloud.{frequencyOf}
 use Rattle.pitch_laws.proofs.Frequency.{highestOf, rate-sounds}
 use Rattle.settings.specs.declared.Shape.{Shape}
 use Rattle.settings.specs.declared.Shape.the-variants.{Sprinkle, Cloud}
-use Rattle.settings.specs.Mending.{lawfulRate}
+use Rattle.settings.specs.Settings.{lawfulRate}
 use Rattle.sources.specs.declared.Source.{Source}
 use Rattle.sources.specs.Sources.{isPitched, isEligible}
 use Rattle.voices.specs.Voices.{maxHzOf, freeRootOf, freeHzOf, freeVoiceOf, sourceVoiceOf}

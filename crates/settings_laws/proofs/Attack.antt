@@ -19,7 +19,7 @@ use Rattle.floats_laws.proofs.Mag.{Upto, Least, le-of}
 use Rattle.floats_laws.proofs.Rising.{nought}
 use Rattle.floats_laws.proofs.Bounds.{add-upto}
 use Rattle.floats_laws.proofs.Spans.{le-lt, lt-le}
-use Rattle.settings.specs.Mending.{one}
+use Rattle.settings.specs.Settings.{one}
 
 -- ---- numbers on the grid of 1 / 1024
 gridded : (k : ℕ) → k < 2 ^ 24 → HasValue (round binary32 false k 1024) false k 1024

@@ -7,8 +7,8 @@ use lib.Ieee.Scale.{finite}
 use lib.Ieee.Bits.{is-false, ofBits-fits}
 use Rattle.lists.specs.Pick.{either}
 use Rattle.floats.specs.Names.{f32, add32, sub32, mul32, div32}
-use Rattle.floats.specs.Choose.{max, clamp}
-use Rattle.floats.proofs.Rules.{finite-number, le-trans, between-finite}
+use Rattle.choices.specs.Choose.{max, clamp}
+use Rattle.floats_laws.proofs.Rules.{finite-number, le-trans, between-finite}
 use Rattle.floats_laws.proofs.Rising.{nought}
 use Rattle.floats_laws.proofs.Choosing as choosing
 use Rattle.floats_laws.proofs.Mag.{Mag, Upto, Least, upto-mag, mag-finite, mag-more, mag-le, least-up, le-upto}
@@ -20,13 +20,14 @@ use Rattle.draws.proofs.Unit.{random-mag}
 use Rattle.elementary.specs.Sqrt.{sqrtOf}
 use Rattle.elementary_laws.proofs.RootRises.{lowest, lowest-root, highest, highest-root, sqrt-window, sqrt-finite}
 use Rattle.settings.specs.declared.Config.{Config}
-use Rattle.settings.specs.declared.Contour.{Contour}
+use Rattle.envelopes.specs.declared.Contour.{Contour}
 use Rattle.settings.specs.declared.Shape.{Shape}
 use Rattle.settings.specs.declared.Shape.the-variants.{Sprinkle, Cloud}
 use Rattle.settings.specs.declared.Direction.{Direction}
 use Rattle.settings.specs.declared.Direction.the-variants.{Forward, Reverse, Alternate}
-use Rattle.settings.specs.Mending.{nil, one, maxHop, lawfulRate, finiteOr, heldTo, attackOf, releaseMsOf, rateOf, sizeOf, mendedOf}
-use Rattle.settings.specs.Envelope.{two, hopFloorOf, onsetOf, releaseOf, sprinkleOf, variationOf, rawOf, cloudLifetimeOf, cloudAttack, reverseAttack, cloudAttackOf, cloudOf, byShape, envelopeOf}
+use Rattle.settings.specs.Settings.{nil, one, maxHop, lawfulRate}
+use Rattle.mending.specs.Mending.{finiteOr, heldTo, attackOf, releaseMsOf, rateOf, sizeOf, mendedOf}
+use Rattle.envelopes.specs.Envelope.{two, hopFloorOf, onsetOf, releaseOf, sprinkleOf, variationOf, rawOf, cloudLifetimeOf, cloudAttack, reverseAttack, cloudAttackOf, cloudOf, byShape, envelopeOf}
 use Rattle.settings_laws.proofs.Again.{finite-or, or-fits}
 use Rattle.settings_laws.proofs.Seconds.{floor-upto, onset-least, onset-upto, release-least, release-upto}
 use Rattle.settings_laws.proofs.Attack.{Part, stage-part}

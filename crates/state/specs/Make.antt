@@ -12,7 +12,7 @@ use Rattle.elementary.specs.Log2.{log2Of}
 use Rattle.powers.specs.Power.{dbToGain}
 use Rattle.pool.specs.declared.Particle.{Particle}
 use Rattle.pool.specs.Pool.{freeParticle}
-use Rattle.settings.specs.Mending.{defaultConfig}
+use Rattle.settings.specs.Settings.{defaultConfig}
 use Rattle.sources.specs.declared.Source.{Source}
 use Rattle.sources.specs.Sources.{noSource}
 use Rattle.timing.specs.Streams.{newOf}

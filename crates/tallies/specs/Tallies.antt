@@ -3,7 +3,7 @@ use Prim.Native.Nat.{ℕ, _+_, _*_}
 use lib.Bits.{bitXor}
 use lib.ListN.{getD}
 use lib.Ieee.{binary32, toBits}
-use Rattle.floats.specs.Word.{rotated}
+use Rattle.words.specs.Word.{rotated}
 use Rattle.draws.specs.Draws.{mixOf}
 use Rattle.pool.specs.declared.Particle.{Particle}
 use Rattle.state.specs.declared.Tally.{Tally}

@@ -1,13 +1,11 @@
 // When births are due: Sprinkle's three streams, and the Cloud's timing reference. Times are in
 // cycles of the Rate clock.
 ghost use mathlib.Core.Path.{_≡_};
-ghost use Rattle.timing.specs.Streams.{countOf, startOf, gapOf, humanOf, nextOf, emitOf, preparedOf, newOf, larger, groupOf, skippedOf, alignedOf, alignedAll, movedOf, referenceOf};
+ghost use Rattle.timing.specs.Streams.{preparedOf, newOf, larger, groupOf, skippedOf, alignedOf, alignedAll, movedOf, referenceOf};
 
 // Three independent streams share one Rate budget.
 // Each has 0, 1 or 2 starts (25, 50, 25 %) in three Rate cycles: on average one a cycle in all.
 pub const SPRINKLE_STREAMS: usize = 3;
-
-pub const SPRINKLE_GROUP_CYCLES: f64 = 3.0;
 
 pub const CLOUD_TIMING_SPREAD: f64 = 0.7;
 
@@ -17,63 +15,6 @@ pub struct SprinkleStream {
     pub emit: bool,
 }
 
-// How many of a group's two starts sound.
-fn count(draw: f32) -> u64
-    ensures { λ r. ⌜ r ≡ countOf draw ⌝ }
-{
-    if draw < 0.25 {
-        return 0;
-    }
-    if draw < 0.75 {
-        return 1;
-    }
-    2
-}
-
-// The first start lies on a grid of quarters of a cycle.
-fn start(key: u64) -> f64
-    ensures { λ r. ⌜ r ≡ startOf key ⌝ }
-{
-    let step = floats::floor32(draws::random(key, draws::TIMING) * 9.0);
-    0.25 + floats::f32_to_f64(step) * 0.25
-}
-
-// The second comes with the first, or a quarter or half a cycle later.
-fn gap(key: u64) -> f64
-    ensures { λ r. ⌜ r ≡ gapOf key ⌝ }
-{
-    let second = std::num::wrapping_add_u64(key, 1);
-    let step = floats::floor32(draws::random(second, draws::TIMING) * 3.0);
-    floats::f32_to_f64(step) * 0.25
-}
-
-// A small offset of the whole group, unless it keeps to the grid.
-fn human(sync: bool, key: u64) -> f64
-    ensures { λ r. ⌜ r ≡ humanOf sync key ⌝ }
-{
-    let draw = draws::random(key, draws::FREE_TIMING);
-    let offset = 0.18 * (floats::f32_to_f64(draw) - 0.5);
-    floats::pick64(sync, 0.0, offset)
-}
-
-fn next(index: u64, key: u64, sync: bool) -> f64
-    ensures { λ r. ⌜ r ≡ nextOf index key sync ⌝ }
-{
-    let group = std::num::nearest_u64_to_f64(index / 2);
-    let second = std::num::nearest_u64_to_f64(index % 2);
-    let start = start(key);
-    let gap = gap(key);
-    let human = human(sync, key);
-    group * SPRINKLE_GROUP_CYCLES + start + second * gap + human
-}
-
-fn emit(index: u64, key: u64) -> bool
-    ensures { λ r. ⌜ r ≡ emitOf index key ⌝ }
-{
-    let n = count(draws::random(key, draws::GROUPING));
-    index % 2 < n
-}
-
 pub fn prepare(stream: SprinkleStream, lane: usize, sync: bool) -> SprinkleStream
     ensures { λ r. ⌜ r ≡ preparedOf (stream .index) lane sync ⌝ }
 {
@@ -81,8 +22,8 @@ pub fn prepare(stream: SprinkleStream, lane: usize, sync: bool) -> SprinkleStrea
     let key = draws::sprinkle_key(lane, index / 2 * 2);
     SprinkleStream {
         index,
-        next: next(index, key, sync),
-        emit: emit(index, key),
+        next: starts::next(index, key, sync),
+        emit: starts::emit(index, key),
     }
 }
 
@@ -107,7 +48,7 @@ pub fn new_stream(lane: usize, sync: bool) -> SprinkleStream
 fn group(reference: f64) -> u64
     ensures { λ r. ⌜ r ≡ groupOf reference ⌝ }
 {
-    let groups = floats::floor64(reference / SPRINKLE_GROUP_CYCLES);
+    let groups = floats::floor64(reference / starts::SPRINKLE_GROUP_CYCLES);
     floats::wrapping_mul(2, floats::f64_to_u64(floats::max64(groups, 0.0)))
 }
 

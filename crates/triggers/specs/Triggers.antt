@@ -7,7 +7,7 @@ use lib.ListN.{getD}
 use Rattle.lists.specs.Pick.{pick}
 use Rattle.refusals.specs.declared.Refusal.the-variants.{Slot}
 use Rattle.refusals.specs.Numbers.{numberOf}
-use Rattle.settings.specs.Mending.{isSprinkle}
+use Rattle.settings.specs.Settings.{isSprinkle}
 use Rattle.sources.specs.Sources.{isEligible}
 use Rattle.state.specs.declared.Engine.{Engine}
 use Rattle.state.specs.declared.Next.{Next}

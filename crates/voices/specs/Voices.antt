@@ -2,7 +2,7 @@
 use Prim.Native.Nat.{ℕ}
 use lib.Ieee.{Float, binary32, binary64, toUnsigned}
 use Rattle.floats.specs.Names.{f32, f64, mul32, div64}
-use Rattle.floats.specs.Choose.{min, clamp}
+use Rattle.choices.specs.Choose.{min, clamp}
 use Rattle.casts.specs.Convert.{convert}
 use Rattle.floats.specs.Whole.{floor}
 use Rattle.draws.specs.Draws.{randomOf}

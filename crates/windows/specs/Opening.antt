@@ -7,7 +7,7 @@ use lib.Ieee.{Float, le}
 use Rattle.lists.specs.Pick.{pick}
 use Rattle.lists.specs.Walk.{walk}
 use Rattle.floats.specs.Names.{f32, sub32, mul32, div32}
-use Rattle.floats.specs.Choose.{max, clamp, abs}
+use Rattle.choices.specs.Choose.{max, clamp, abs}
 use Rattle.elementary.specs.Log2.{log2Of}
 use Rattle.windows.specs.declared.Window.{Window}
 use Rattle.windows.specs.declared.Frame.{Frame}

@@ -15,7 +15,7 @@ use lib.Ieee.Exact.{HasValue, round-exact}
 use lib.Ieee.Fits.{down-pos, round-fits}
 use lib.Ieee.Scale.{finite, round-same}
 use Rattle.casts.specs.Convert.{apart, unitsIn, Nearest}
-use Rattle.floats.proofs.Keys.{mag-back}
+use Rattle.floats_laws.proofs.Keys.{mag-back}
 use Rattle.floats_laws.proofs.Mag.{Upto, upto-mag, within-upto, mag-le}
 use Rattle.floats_laws.proofs.Nearest.{round-nearest}
 use Rattle.casts.proofs.Pack.{pow-lt-back}

@@ -4,7 +4,7 @@ use Prim.Native.Nat.{ℕ, _+_, _-_, _*_, _/_, _%_, _^_, _≤_, _<_}
 use native.Mathlib.Nat.{div-le-self, div-div-eq-div-mul, div-eq-of-lt, lt-of-lt-of-le}
 use native.Mathlib.Omega.{arith}
 use lib.Pow.{pow-add, pow-mono}
-use Rattle.floats.proofs.Words.{product-fits}
+use Rattle.words.proofs.Words.{product-fits}
 use Rattle.power64.specs.Exp64.{scaled, high}
 use Rattle.power64.proofs.scaled.Statement.{statement}
 use Rattle.power64.proofs.scaled.Tie as tie

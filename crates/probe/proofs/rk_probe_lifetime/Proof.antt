@@ -1,9 +1,9 @@
 -- `rk_probe_lifetime` meets its contract: the callees' answers, put together.
 use mathlib.Core.Path.{ap, _∙_}
 use Rattle.settings.specs.declared.Config.{Config}
-use Rattle.settings.specs.declared.Contour.{Contour}
-use Rattle.settings.specs.Mending.{mendedOf}
-use Rattle.settings.specs.Envelope.{envelopeOf}
+use Rattle.envelopes.specs.declared.Contour.{Contour}
+use Rattle.mending.specs.Mending.{mendedOf}
+use Rattle.envelopes.specs.Envelope.{envelopeOf}
 use borrow.Author.Needs.{needs}
 use Rattle.probe.proofs.rk_probe_lifetime.Statement.{statement}
 use Rattle.probe.proofs.rk_probe_lifetime.Tie as tie

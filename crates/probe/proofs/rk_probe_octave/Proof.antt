@@ -1,8 +1,8 @@
 -- `rk_probe_octave` meets its contract: the field of what `sprinkle_register` gives.
 use mathlib.Core.Path.{ap, _∙_}
 use Rattle.settings.specs.declared.Direction.{Direction}
-use Rattle.pitch.specs.declared.Register.{Register}
-use Rattle.pitch.specs.Octave.{registerOf}
+use Rattle.octaves.specs.declared.Register.{Register}
+use Rattle.octaves.specs.Octave.{registerOf}
 use borrow.Author.Needs.{needs}
 use Rattle.probe.proofs.rk_probe_octave.Statement.{statement}
 use Rattle.probe.proofs.rk_probe_octave.Tie as tie

@@ -1,7 +1,7 @@
 -- `checked` meets its contract: one test.
 use Rattle.lists.specs.Pick.{picked, passed}
 use borrow.Author.Tests.{lt-ltb, le-ltb}
-use Rattle.settings.specs.Mending.{checkedOf}
+use Rattle.settings.specs.Settings.{checkedOf}
 use Rattle.settings.proofs.checked.Statement.{statement}
 use Rattle.settings.proofs.checked.Tie as tie
 

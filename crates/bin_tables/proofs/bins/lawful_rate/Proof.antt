@@ -1,6 +1,6 @@
 -- `lawful_rate` meets its contract: the three tests.
 use borrow.Author.Needs.{needs}
-use Rattle.settings.specs.Mending.{lawfulRate}
+use Rattle.settings.specs.Settings.{lawfulRate}
 use Rattle.bin_tables.proofs.bins.lawful_rate.Statement.{statement}
 use Rattle.bin_tables.proofs.bins.lawful_rate.Tie as tie
 

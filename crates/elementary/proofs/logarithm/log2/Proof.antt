@@ -11,7 +11,7 @@ use Rattle.casts.proofs.Facts.{eq-self}
 use Rattle.floats_laws.proofs.PositiveBits.{pattern-positive}
 use Rattle.elementary.specs.Log2.{fractionOf, joinedOf, logOf}
 use Rattle.elementary.proofs.Rungs.{rung-normal, digits-normal}
-use Rattle.elementary.proofs.LogRises.{log-is}
+use Rattle.elementary.proofs.Tested.{log-is}
 use Rattle.elementary.proofs.logarithm.log2.Statement.{statement}
 use Rattle.elementary.proofs.logarithm.log2.Tie as tie
 

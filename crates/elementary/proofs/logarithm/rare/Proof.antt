@@ -8,8 +8,7 @@ use Rattle.casts.proofs.Facts.{ne-self, no-nan}
 use Rattle.floats_laws.proofs.PositiveBits.{positive-above, positive-under}
 use Rattle.elementary.specs.Log2.{logOf, log2Of}
 use Rattle.elementary.proofs.Rungs.{Parts, parts}
-use Rattle.elementary.proofs.Tested.{past-tests}
-use Rattle.elementary.proofs.LogRises.{log-is}
+use Rattle.elementary.proofs.Tested.{past-tests, log-is}
 use Rattle.elementary.proofs.logarithm.rare.Statement.{statement}
 use Rattle.elementary.proofs.logarithm.rare.Tie as tie
 

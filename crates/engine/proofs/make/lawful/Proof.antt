@@ -1,5 +1,5 @@
 -- `lawful` meets its contract: one test after the other.
-use Rattle.settings.specs.Mending.{lawfulRate}
+use Rattle.settings.specs.Settings.{lawfulRate}
 use borrow.Author.Needs.{needs}
 use Rattle.engine.proofs.make.lawful.Statement.{statement}
 use Rattle.engine.proofs.make.lawful.Tie as tie

@@ -16,7 +16,7 @@ pick32-requires c κs = search needs
 
 returns : tie.Need-returns
 unfolding remEuclid ofBits
-returns c = cc
+returns c = rw (c .pick32 .ensures, c .before .abs32 .ensures, c .before .before .rem32 .ensures)
 
 pub rem-euclid32-spec : {M : Type 1} → statement M
 rem-euclid32-spec = tie.close (tie.spec rem32-requires abs32-requires pick32-requires returns)

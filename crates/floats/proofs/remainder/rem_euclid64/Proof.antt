@@ -16,7 +16,7 @@ pick64-requires c κs = search needs
 
 returns : tie.Need-returns
 unfolding remEuclid ofBits
-returns c = cc
+returns c = rw (c .pick64 .ensures, c .before .abs64 .ensures, c .before .before .rem64 .ensures)
 
 pub rem-euclid64-spec : {M : Type 1} → statement M
 rem-euclid64-spec = tie.close (tie.spec rem64-requires abs64-requires pick64-requires returns)

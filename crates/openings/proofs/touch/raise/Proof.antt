@@ -7,7 +7,7 @@ use mathlib.Core.Bool.{not}
 use lib.Dec.{T}
 use lib.ListN.{length, getD}
 use lib.Ieee.{Float, nan, isNan}
-use Rattle.floats.specs.Choose.{max}
+use Rattle.choices.specs.Choose.{max}
 use Rattle.openings.specs.Walk.{Part}
 use Rattle.openings.proofs.Raising.{one-test}
 use Rattle.openings.proofs.Ranges.{part-none, part-more}

@@ -39,7 +39,7 @@ exp2-requires c κs = search needs
 
 returns : tie.Need-returns
 unfolding lowerOf frequencyOf
-returns c = cc
+returns c = rw (c .exp2 .ensures, c .before .offset .ensures, c .before .before .max32 .ensures, c .before .before .before .random .ensures, c .before .before .before .before .mass .ensures, c .before .before .before .before .before .min322 .ensures, c .before .before .before .before .before .before .slope .ensures, c .before .before .before .before .before .before .before .ramp .ensures, c .before .before .before .before .before .before .before .before .log2 .ensures, c .before .before .before .before .before .before .before .before .before .log-of-lower .ensures, c .before .before .before .before .before .before .before .before .before .before .min32 .ensures)
 
 pub free-cloud-frequency-spec : {M : Type 1} → statement M
 free-cloud-frequency-spec =

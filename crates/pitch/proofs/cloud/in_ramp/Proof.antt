@@ -9,7 +9,7 @@ sqrt-requires c κs = search needs
 
 returns : tie.Need-returns
 unfolding inRamp
-returns c = cc
+returns c = rw (c .sqrt .ensures)
 
 pub in-ramp-spec : {M : Type 1} → statement M
 in-ramp-spec = tie.close (tie.spec sqrt-requires returns)

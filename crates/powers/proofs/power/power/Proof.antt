@@ -10,7 +10,7 @@ use denote.Floats.{passes}
 use Rattle.casts.proofs.Facts.{ne-self, no-nan}
 use Rattle.casts.proofs.Narrow as Narrow
 use Rattle.floats_laws.proofs.Numbers.{lt-left-number, inside-finite, mul-number}
-use Rattle.floats.proofs.Rules.{add-number}
+use Rattle.floats_laws.proofs.Rules.{add-number}
 use Rattle.powers.specs.Power.{power, lifted}
 use Rattle.powers.proofs.Edges.{upper-edge, lower-edge, edged-nan, edged-within, edged-low, edged-high}
 use Rattle.powers.proofs.power.power.Statement.{statement}
