@@ -5,7 +5,7 @@ use Rattle.steps.proofs.step.Statement.{statement}
 use Rattle.steps.proofs.step.Tie as tie
 
 enum-known-field : tie.Need-enum-known-field
-enum-known-field c = search needs
+enum-known-field c = c .match .keys1
 
 new-engine-requires : tie.Need-new-engine-requires
 new-engine-requires c κs = search needs
@@ -14,7 +14,7 @@ done-requires : tie.Need-done-requires
 done-requires c κs = search needs
 
 enum-known-field-2 : tie.Need-enum-known-field-2
-enum-known-field-2 c = search needs
+enum-known-field-2 c = c .match .keys2
 
 configure-requires : tie.Need-configure-requires
 configure-requires c κs = search needs
@@ -23,13 +23,13 @@ done-requires-2 : tie.Need-done-requires-2
 done-requires-2 c κs = search needs
 
 enum-known-field-3 : tie.Need-enum-known-field-3
-enum-known-field-3 c = search needs
+enum-known-field-3 c = c .match .keys3
 
 source-requires : tie.Need-source-requires
 source-requires c κs = search needs
 
 enum-known-field-4 : tie.Need-enum-known-field-4
-enum-known-field-4 c = search needs
+enum-known-field-4 c = c .match .keys4
 
 cast-retire-source : tie.Need-cast-retire-source
 cast-retire-source c = search needs
@@ -41,7 +41,7 @@ done-requires-3 : tie.Need-done-requires-3
 done-requires-3 c κs = search needs
 
 enum-known-field-5 : tie.Need-enum-known-field-5
-enum-known-field-5 c = search needs
+enum-known-field-5 c = c .match .keys5
 
 cast-release-source : tie.Need-cast-release-source
 cast-release-source c = search needs
@@ -53,7 +53,7 @@ done-requires-4 : tie.Need-done-requires-4
 done-requires-4 c κs = search needs
 
 enum-known-field-6 : tie.Need-enum-known-field-6
-enum-known-field-6 c = search needs
+enum-known-field-6 c = c .match .keys6
 
 cast-trigger : tie.Need-cast-trigger
 cast-trigger c = search needs
@@ -65,7 +65,7 @@ triggered-requires : tie.Need-triggered-requires
 triggered-requires c κs = search needs
 
 enum-known-field-7 : tie.Need-enum-known-field-7
-enum-known-field-7 c = search needs
+enum-known-field-7 c = c .match .keys7
 
 seek-requires : tie.Need-seek-requires
 seek-requires c κs = search needs
@@ -74,7 +74,7 @@ quiet-requires : tie.Need-quiet-requires
 quiet-requires c κs = search needs
 
 enum-known-field-8 : tie.Need-enum-known-field-8
-enum-known-field-8 c = search needs
+enum-known-field-8 c = c .match .keys8
 
 cast-advance : tie.Need-cast-advance
 cast-advance c = search needs
@@ -86,7 +86,7 @@ done-requires-5 : tie.Need-done-requires-5
 done-requires-5 c κs = search needs
 
 enum-known-field-9 : tie.Need-enum-known-field-9
-enum-known-field-9 c = search needs
+enum-known-field-9 c = c .match .keys9
 
 take-frame-requires : tie.Need-take-frame-requires
 take-frame-requires c κs = search needs
@@ -95,7 +95,7 @@ framed-requires : tie.Need-framed-requires
 framed-requires c κs = search needs
 
 enum-known-field-10 : tie.Need-enum-known-field-10
-enum-known-field-10 c = search needs
+enum-known-field-10 c = c .match .keys10
 
 set-note-input-present-requires : tie.Need-set-note-input-present-requires
 set-note-input-present-requires c κs = search needs
@@ -104,7 +104,7 @@ quiet-requires-2 : tie.Need-quiet-requires-2
 quiet-requires-2 c κs = search needs
 
 enum-told : tie.Need-enum-told
-enum-told c = search needs
+enum-told c = c .match .keys11
 
 reset-requires : tie.Need-reset-requires
 reset-requires c κs = search needs
@@ -113,13 +113,13 @@ quiet-requires-3 : tie.Need-quiet-requires-3
 quiet-requires-3 c κs = search needs
 
 enum-told-2 : tie.Need-enum-told-2
-enum-told-2 c = search needs
+enum-told-2 c = c .match .keys12
 
 reserve-requires : tie.Need-reserve-requires
 reserve-requires c κs = search needs
 
 enum-known-field-11 : tie.Need-enum-known-field-11
-enum-known-field-11 c = search needs
+enum-known-field-11 c = c .match .keys13
 
 cast-trigger-reserved : tie.Need-cast-trigger-reserved
 cast-trigger-reserved c = search needs
