@@ -3,21 +3,15 @@ use Prim.Native.Nat.{ℕ, _+_, _/_}
 use mathlib.Core.List.{List}
 use lib.Dec.{eqb, ltb}
 use lib.ListN.{length}
-use lib.IntN.{pos}
-use lib.Ieee.{Float, binary32, ofInt}
+use lib.Ieee.{Float}
 use Rattle.lists.specs.Pick.{pick}
 use Rattle.lists.specs.Table.{table}
-use Rattle.floats.specs.Names.{mul32, div32}
+use Rattle.floats.specs.Names.{mul32, div32, nil, asFloat}
 use Rattle.elementary.specs.Log2.{log2Of}
 use Rattle.refusals.specs.declared.Answer.{Answer}
 use Rattle.refusals.specs.declared.Answer.the-variants.{Taken, Refused}
 use Rattle.refusals.specs.declared.Refusal.the-variants.{Rate, Size, Lengths}
 use Rattle.settings.specs.Settings.{lawfulRate}
-use Rattle.windows.specs.Opening.{nil}
-
--- n as f32
-abbrev pub asFloat : ℕ → Float
-asFloat n = ofInt binary32 (pos n)
 
 -- (bin as f32 * bin_hz).log2(), from bin 1 on
 unfoldable pub logAt : Float → ℕ → Float

@@ -4,7 +4,7 @@ use Rattle.lists.specs.Pick.{pick}
 use lib.IntN.{pos}
 use lib.Dec.{eqb}
 use lib.Ieee.{Float, binary32, ofInt}
-use Rattle.floats.specs.Names.{f32, add32, sub32, mul32, div32}
+use Rattle.floats.specs.Names.{f32, add32, sub32, mul32, div32, one, two}
 use Rattle.choices.specs.Choose.{max, clamp}
 use Rattle.draws.specs.Draws.{randomOf}
 use Rattle.elementary.specs.Sqrt.{sqrtOf}
@@ -14,12 +14,8 @@ use Rattle.settings.specs.declared.Shape.{Shape}
 use Rattle.settings.specs.declared.Shape.the-variants.{Sprinkle, Cloud}
 use Rattle.settings.specs.declared.Direction.{Direction}
 use Rattle.settings.specs.declared.Direction.the-variants.{Forward, Reverse, Alternate}
-use Rattle.settings.specs.Settings.{one}
 
--- 2.0, the milliseconds' 0.001 and SPRINKLE_MIN_STAGE_SECONDS
-abbrev pub two : Float
-two = f32 0x40000000
-
+-- the milliseconds' 0.001 and SPRINKLE_MIN_STAGE_SECONDS
 abbrev pub milli : Float
 milli = f32 0x3a83126f
 

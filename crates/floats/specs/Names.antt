@@ -1,6 +1,7 @@
--- Short names of the operations at one format, for definitions that follow a line of Rust. Definitions only.
+-- Short names of the operations at one format and of a few numbers, for definitions that follow a line of Rust. Definitions only.
 use Prim.Native.Nat.{ℕ}
-use lib.Ieee.{Float, binary32, binary64, ofBits, add, sub, mul, div}
+use lib.IntN.{pos}
+use lib.Ieee.{Float, binary32, binary64, ofBits, ofInt, add, sub, mul, div}
 
 abbrev pub f32 : ℕ → Float
 f32 b = ofBits binary32 b
@@ -31,3 +32,20 @@ mul64 = mul binary64
 
 abbrev pub div64 : Float → Float → Float
 div64 = div binary64
+
+-- 0.0, 0.5, 1.0 and 2.0 as f32
+abbrev pub nil : Float
+nil = f32 0x00000000
+
+abbrev pub half : Float
+half = f32 0x3f000000
+
+abbrev pub one : Float
+one = f32 0x3f800000
+
+abbrev pub two : Float
+two = f32 0x40000000
+
+-- n as f32
+abbrev pub asFloat : ℕ → Float
+asFloat n = ofInt binary32 (pos n)

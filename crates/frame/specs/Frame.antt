@@ -3,9 +3,8 @@ use mathlib.Core.Bool.{Bool, cond, _&&_}
 use lib.Ieee.{Float, lt, le, neg}
 use lib.Ieee.Scale.{finite}
 use Rattle.lists.specs.Pick.{pick}
-use Rattle.floats.specs.Names.{f32, add32, sub32, mul32, div32}
+use Rattle.floats.specs.Names.{f32, add32, sub32, mul32, div32, nil, one}
 use Rattle.powers.specs.Power.{exp}
-use Rattle.windows.specs.Opening.{nil, one}
 
 -- 1.0 - (-elapsed_seconds / TRANSITION_SECONDS).exp()
 unfoldable pub stepOf : Float → Float

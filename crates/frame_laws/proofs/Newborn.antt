@@ -16,7 +16,7 @@ use lib.Ieee.Order.{round-mono}
 use lib.Ieee.Scale.{finite}
 use Rattle.lists.specs.Pick.{either}
 use Rattle.lists.specs.Table.{table-at}
-use Rattle.floats.specs.Names.{f32}
+use Rattle.floats.specs.Names.{f32, one}
 use Rattle.choices.specs.Choose.{clamp}
 use Rattle.floats_laws.proofs.Bounds.{add-mag, mul-mag}
 use Rattle.floats_laws.proofs.Choosing.{min-fits, clamp-least, clamp-fits}
@@ -42,7 +42,7 @@ use Rattle.settings.specs.declared.Direction.the-variants.{Forward, Reverse, Al
 use Rattle.settings.specs.declared.Shape.{Shape}
 use Rattle.settings.specs.declared.Shape.the-variants.{Sprinkle, Cloud}
 use Rattle.envelopes.specs.Envelope.{sprinkleOf, cloudOf, cloudAttackOf, byShape, envelopeOf}
-use Rattle.settings.specs.Settings.{one, maxHop, lawfulRate}
+use Rattle.settings.specs.Settings.{maxHop, lawfulRate}
 use Rattle.mending.specs.Mending.{finiteOr, heldTo, mendedOf}
 use Rattle.settings_laws.proofs.Again.{finite-or, or-fits}
 use Rattle.settings_laws.proofs.Lifetimes.{Formed, envelope-sound}

@@ -31,7 +31,7 @@ use Rattle.elementary.specs.Log2.{log2Of}
 use Rattle.elementary_laws.proofs.LogExact.{log2-fits}
 use Rattle.elementary_laws.proofs.LogRises.{least, most, log2-within}
 use Rattle.pool.specs.declared.Particle.{Particle}
-use Rattle.windows.specs.Opening.{nil, one}
+use Rattle.floats.specs.Names.{nil, one}
 use Rattle.places.specs.declared.Shown.{Shown}
 use Rattle.places.specs.Shown.{rootLogOf}
 use Rattle.partials.specs.Windows.{centerOf, radiusOf}

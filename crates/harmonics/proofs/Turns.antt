@@ -8,10 +8,10 @@ use mathlib.Core.List.{List, [], _∷_}
 use lib.Dec.{eqb}
 use lib.ListN.{length, set, length-set}
 use lib.Ieee.{Float, le}
-use Rattle.floats.specs.Names.{mul32}
+use Rattle.floats.specs.Names.{mul32, nil}
 use Rattle.lists.specs.Pick.{pick, picked, passed, either}
 use Rattle.draws.specs.Draws.{randomOf}
-use Rattle.harmonics.specs.Partials.{nil, sumOf, harmonicOf, withoutOf, countOf, drawnFrom}
+use Rattle.harmonics.specs.Partials.{sumOf, harmonicOf, withoutOf, countOf, drawnFrom}
 
 pub count-most : (draw : Float) → countOf draw ≤ 3
 unfolding countOf

@@ -2,23 +2,14 @@
 use Prim.Native.Nat.{ℕ, zero, suc, _+_, _-_}
 use mathlib.Core.Bool.{cond}
 use mathlib.Core.List.{List, [], _∷_}
-use lib.IntN.{pos}
 use lib.Dec.{eqb, leb}
 use lib.ListN.{getD, set}
-use lib.Ieee.{Float, nan, binary32, ofInt, lt, le, neg}
+use lib.Ieee.{Float, nan, lt, le, neg}
 use Rattle.lists.specs.Pick.{pick}
 use Rattle.lists.specs.Table.{table}
 use Rattle.lists.specs.Walk.{walk}
-use Rattle.floats.specs.Names.{f32, add32, sub32, mul32}
+use Rattle.floats.specs.Names.{f32, add32, sub32, mul32, nil, asFloat}
 use Rattle.draws.specs.Draws.{randomOf}
-
--- 0.0
-abbrev pub nil : Float
-nil = f32 0x00000000
-
--- n as f32
-abbrev pub asFloat : ℕ → Float
-asFloat n = ofInt binary32 (pos n)
 
 -- the sum's first summand: Rust's `sum` of floats has begun at -0.0 since 1.83 (before, at 0.0), which no answer here shows
 abbrev pub minusNil : Float

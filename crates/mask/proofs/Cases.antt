@@ -8,7 +8,7 @@ use lib.Ieee.{Float, le, eq}
 use Rattle.casts.proofs.Sat.{no}
 use Rattle.lists.specs.Pick.{pick, took}
 use Rattle.lists.specs.Table.{table}
-use Rattle.windows.specs.Opening.{nil, one}
+use Rattle.floats.specs.Names.{nil}
 use Rattle.windows.specs.declared.Frame.{Frame}
 use Rattle.refusals.specs.declared.Answer.{Answer}
 use Rattle.refusals.specs.declared.Answer.the-variants.{Taken, Refused}

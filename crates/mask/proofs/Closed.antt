@@ -12,7 +12,7 @@ use lib.Ieee.Fits.{up-pos, and-l}
 use Rattle.floats_laws.proofs.Rising.{nought}
 use Rattle.floats_laws.proofs.Units.{one as i, zero-fits}
 use Rattle.casts.proofs.Values.{same-fin}
-use Rattle.windows.specs.Opening.{nil, one}
+use Rattle.floats.specs.Names.{nil, one}
 
 at-zero : (s : Bool) → sub binary32 i (fin s 0 (pos 0)) ≡ i
 unfolding sub add neg Ieee.sum round Ieee.units Ieee.odd Ieee.size Ieee.span Ieee.climb

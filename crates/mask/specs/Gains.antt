@@ -7,7 +7,7 @@ use lib.ListN.{length}
 use lib.Ieee.{Float, neg, le, eq}
 use Rattle.lists.specs.Pick.{pick}
 use Rattle.lists.specs.Table.{table}
-use Rattle.floats.specs.Names.{f32, sub32, mul32}
+use Rattle.floats.specs.Names.{f32, sub32, mul32, nil, one}
 use Rattle.choices.specs.Choose.{clamp}
 use Rattle.powers.specs.Power.{dbToGain}
 use Rattle.refusals.specs.declared.Answer.{Answer}
@@ -15,7 +15,6 @@ use Rattle.refusals.specs.declared.Answer.the-variants.{Taken, Refused}
 use Rattle.refusals.specs.declared.Refusal.the-variants.{Lengths, Logs}
 use Rattle.windows.specs.declared.Window.{Window}
 use Rattle.windows.specs.declared.Frame.{Frame}
-use Rattle.windows.specs.Opening.{nil, one}
 use Rattle.bin_tables.specs.Logs.{lawfulLogs}
 use Rattle.openings.specs.Opened.{openAt}
 

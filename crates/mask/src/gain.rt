@@ -3,7 +3,7 @@ ghost use mathlib.Core.Path.{_≡_};
 ghost use lib.ListN.{length, getD};
 ghost use lib.Ieee.{nan};
 ghost use Rattle.lists.specs.Table.{table};
-ghost use Rattle.windows.specs.Opening.{nil, one};
+ghost use Rattle.floats.specs.Names.{nil, one};
 ghost use Rattle.mask.specs.Gains.{levelOf, gainOf, quietOf, onesOf, shapedOf, gainsOf};
 use refusals::Answer;
 use refusals::Refusal;

@@ -23,7 +23,8 @@ use Rattle.floats_laws.proofs.Rules.{lt→le, le-left, le-right, le-trans, add-
 use Rattle.choices.proofs.Sign.{abs-number}
 use Rattle.floats_laws.proofs.Units.{one as i, zero-fits, one-fits, unit}
 use Rattle.windows.specs.declared.Window.{Window}
-use Rattle.windows.specs.Opening.{nil, one, taperOf, insideOf, opennessOf, opening, openedBy}
+use Rattle.floats.specs.Names.{nil, one}
+use Rattle.windows.specs.Opening.{taperOf, insideOf, opennessOf, opening, openedBy}
 use Rattle.windows_laws.proofs.Tapered.{taper-finite}
 use Rattle.openings.specs.Opened.{touches, raisedOf, raising, openAt}
 use Rattle.bin_tables.specs.Logs.{lawfulLogs}

@@ -23,7 +23,7 @@ use Rattle.lists.specs.Table.{length-table, table-at}
 use Rattle.elementary.specs.Log2.{log2Of}
 use Rattle.elementary_laws.proofs.LogExact.{log2-fits}
 use Rattle.elementary_laws.proofs.LogRises.{log2-within, log2-rises}
-use Rattle.floats.specs.Names.{mul32, div32}
+use Rattle.floats.specs.Names.{mul32, div32, nil, asFloat}
 use Rattle.floats_laws.proofs.Bounds.{div-mag, of-upto}
 use Rattle.floats_laws.proofs.Casting.{whole-rises}
 use Rattle.floats_laws.proofs.Ends.{not-above}
@@ -37,8 +37,7 @@ use Rattle.floats_laws.proofs.Spans.{least-above}
 use Rattle.floats_laws.proofs.Through.{lt-le}
 use Rattle.floats_laws.proofs.Units.{one as i, zero-fits, one-times}
 use Rattle.settings.specs.Settings.{lawfulRate}
-use Rattle.windows.specs.Opening.{nil}
-use Rattle.bin_tables.specs.Bins.{asFloat, logAt, logsOf}
+use Rattle.bin_tables.specs.Bins.{logAt, logsOf}
 use Rattle.bin_tables.specs.Logs.{lawfulAt, lawfulLogs}
 
 -- ---- a rate over a size

@@ -21,7 +21,8 @@ use Rattle.floats_laws.proofs.Rules.{neg-finite, add-number, finite-number}
 use Rattle.floats_laws.proofs.Gap.{gap-below, gap-above, div-one, one-less}
 use Rattle.floats_laws.proofs.Units.{one as i, zero-fits}
 use Rattle.windows.specs.declared.Window.{Window}
-use Rattle.windows.specs.Opening.{nil, one, cubic, taperOf, insideOf, opennessOf}
+use Rattle.floats.specs.Names.{nil, one}
+use Rattle.windows.specs.Opening.{cubic, taperOf, insideOf, opennessOf}
 use Rattle.openings.specs.Opened.{touches}
 
 -- ---- at or below 0 the taper is 0

@@ -5,11 +5,10 @@ use lib.Dec.{ltb}
 use lib.Ieee.{Float, binary32}
 use lib.Ieee.Scale.{finite}
 use Rattle.lists.specs.Pick.{pick}
-use Rattle.floats.specs.Names.{f32}
+use Rattle.floats.specs.Names.{f32, nil, one}
 use Rattle.choices.specs.Choose.{clamp}
 use Rattle.floats.specs.Remainder.{remEuclid}
 use Rattle.settings.specs.declared.Config.{Config}
-use Rattle.settings.specs.Settings.{nil, one}
 
 -- if x.is_finite() { x } else { fallback }
 unfoldable pub finiteOr : Float → Float → Float

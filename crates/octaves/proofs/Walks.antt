@@ -5,9 +5,8 @@ use native.Mathlib.Omega.{arith}
 use native.Mathlib.Numerals.{add-one}
 use mathlib.Core.Bool.{true, false}
 use lib.Ieee.{Float, lt}
-use Rattle.floats.specs.Names.{sub32}
+use Rattle.floats.specs.Names.{sub32, nil}
 use Rattle.lists.specs.Pick.{pick, picked, passed}
-use Rattle.registers.specs.Register.{nil}
 use Rattle.octaves.specs.Octave.{chosenFrom}
 
 -- what is to be answered from the first is what is to be answered from i, with so much left of the target

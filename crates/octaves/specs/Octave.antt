@@ -5,16 +5,16 @@ use lib.Dec.{eqb, ltb}
 use lib.Ieee.{Float, binary32, toUnsigned, lt}
 use Rattle.lists.specs.Pick.{pick}
 use Rattle.lists.specs.Times.{times}
-use Rattle.floats.specs.Names.{f32, add32, sub32, mul32, div32}
+use Rattle.floats.specs.Names.{f32, add32, sub32, mul32, div32, nil, half, one, asFloat}
 use Rattle.choices.specs.Choose.{max, min}
 use Rattle.floats.specs.Whole.{floor, ceil}
 use Rattle.draws.specs.Draws.{randomOf}
 use Rattle.elementary.specs.Log2.{log2Of}
 use Rattle.settings.specs.declared.Direction.{Direction}
 use Rattle.settings.specs.declared.Direction.the-variants.{Forward, Reverse, Alternate}
-use Rattle.harmonics.specs.Partials.{asFloat, minusNil}
+use Rattle.harmonics.specs.Partials.{minusNil}
 use Rattle.octaves.specs.declared.Register.{Register}
-use Rattle.registers.specs.Register.{nil, half, one, minHz, strengthOf, probabilityOf}
+use Rattle.registers.specs.Register.{minHz, strengthOf, probabilityOf}
 
 -- index & 1 == 0 where the direction alternates
 unfoldable pub upwardOf : Direction → ℕ → Bool

@@ -9,7 +9,7 @@ use lib.Ieee.{Float, nan}
 use Rattle.lists.specs.Table.{table, length-table, table-at}
 use Rattle.lists.specs.Walk.{Walked, walked-none, walked-more, walked-all}
 use Rattle.windows.specs.declared.Window.{Window}
-use Rattle.windows.specs.Opening.{nil}
+use Rattle.floats.specs.Names.{nil}
 use Rattle.openings.specs.Opened.{raising, openAt}
 use Rattle.openings.specs.Walk.{Raised}
 

@@ -14,7 +14,8 @@ use Rattle.choices.specs.Choose.{max}
 use Rattle.choices.proofs.Rounded.{cond-number}
 use Rattle.floats_laws.proofs.Rules.{lt→le, le-right}
 use Rattle.windows.specs.declared.Window.{Window}
-use Rattle.windows.specs.Opening.{nil, opennessOf}
+use Rattle.floats.specs.Names.{nil}
+use Rattle.windows.specs.Opening.{opennessOf}
 use Rattle.openings.specs.Opened.{touches, raisedOf}
 use Rattle.openings.specs.Walk.{Numbers, Raised}
 

@@ -11,10 +11,10 @@ use lib.ListN.{length, getD, set, length-set}
 use lib.Seq.{getD-set-same, getD-set-other}
 use lib.Ieee.{Float, nan, lt, le}
 use Rattle.lists.specs.Pick.{by-case}
-use Rattle.floats.specs.Names.{add32, sub32}
+use Rattle.floats.specs.Names.{add32, sub32, nil}
 use Rattle.choices.specs.Choose.{max}
 use Rattle.windows.specs.declared.Window.{Window}
-use Rattle.windows.specs.Opening.{nil, opennessOf}
+use Rattle.windows.specs.Opening.{opennessOf}
 use Rattle.openings.specs.Opened.{touches, raisedOf}
 use Rattle.openings.specs.Search.{First}
 use Rattle.openings.specs.Walk.{Part, Raised}

@@ -8,14 +8,14 @@ use lib.Ieee.{Float, nan, lt, le}
 use Rattle.lists.specs.Pick.{pick}
 use Rattle.lists.specs.Table.{table}
 use Rattle.lists.specs.Walk.{walk}
-use Rattle.floats.specs.Names.{add32, sub32}
+use Rattle.floats.specs.Names.{add32, sub32, nil}
 use Rattle.choices.specs.Choose.{max}
 use Rattle.refusals.specs.declared.Answer.{Answer}
 use Rattle.refusals.specs.declared.Answer.the-variants.{Taken, Refused}
 use Rattle.refusals.specs.declared.Refusal.the-variants.{Lengths, Logs}
 use Rattle.windows.specs.declared.Window.{Window}
 use Rattle.bin_tables.specs.Logs.{lawfulLogs}
-use Rattle.windows.specs.Opening.{nil, opennessOf}
+use Rattle.windows.specs.Opening.{opennessOf}
 
 -- ---- 01, Mask: a window touches bins from 1 whose log lies from centre - radius to centre + radius, as rounded f32
 unfoldable pub touches : Window → Float → Bool

@@ -3,7 +3,7 @@ ghost use mathlib.Core.Path.{_≡_};
 ghost use Prim.Native.Nat.{_≤_};
 ghost use lib.ListN.{length};
 ghost use Rattle.lists.specs.Table.{table};
-ghost use Rattle.windows.specs.Opening.{nil};
+ghost use Rattle.floats.specs.Names.{nil};
 ghost use Rattle.openings.specs.Opened.{openAt, openedOf};
 ghost use Rattle.openings.specs.Walk.{Numbers, Part, Raised, Sorted};
 use refusals::Answer;

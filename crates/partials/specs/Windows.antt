@@ -6,12 +6,12 @@ use lib.Ieee.{Float, nan, le}
 use lib.ListN.{getD}
 use Rattle.lists.specs.Pick.{pick}
 use Rattle.lists.specs.Table.{table}
-use Rattle.floats.specs.Names.{add32, div32}
+use Rattle.floats.specs.Names.{add32, div32, nil, one}
 use Rattle.choices.specs.Choose.{max}
 use Rattle.elementary.specs.Log2.{log2Of}
 use Rattle.powers.specs.Power.{exp2}
 use Rattle.windows.specs.declared.Window.{Window}
-use Rattle.windows.specs.Opening.{nil, one, none}
+use Rattle.windows.specs.Opening.{none}
 use Rattle.places.specs.declared.Shown.{Shown}
 
 -- p.width.max((1.0 + bin_hz.max(0.0) / hz.max(1.0)).log2())

@@ -2,18 +2,15 @@
 use Prim.Native.Nat.{ℕ}
 use lib.Ieee.{Float, le}
 use Rattle.lists.specs.Pick.{pick}
-use Rattle.floats.specs.Names.{f32, add32, sub32, mul32, div32}
+use Rattle.floats.specs.Names.{f32, add32, sub32, mul32, div32, nil, half, one, two}
 use Rattle.choices.specs.Choose.{max, min}
 use Rattle.draws.specs.Draws.{randomOf}
 use Rattle.elementary.specs.Log2.{log2Of}
 use Rattle.powers.specs.Power.{exp2}
 use Rattle.elementary.specs.Sqrt.{sqrtOf}
-use Rattle.registers.specs.Register.{nil, half, one, minHz, fullHz, lowProbability}
+use Rattle.registers.specs.Register.{minHz, fullHz, lowProbability}
 
--- 2.0 and f32::EPSILON
-abbrev pub two : Float
-two = f32 0x40000000
-
+-- f32::EPSILON
 abbrev pub epsilon : Float
 epsilon = f32 0x34000000
 

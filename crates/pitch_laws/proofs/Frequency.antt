@@ -11,7 +11,7 @@ use lib.Ieee.Fits.{and-l, and-r, add-fits, sub-fits, mul-fits}
 use lib.Ieee.Scale.{finite}
 use denote.Floats.{passes}
 use Rattle.lists.specs.Pick.{pick, by-case}
-use Rattle.floats.specs.Names.{f32, add32, sub32, mul32}
+use Rattle.floats.specs.Names.{f32, add32, sub32, mul32, nil, half, two}
 use Rattle.choices.specs.Choose.{max, min}
 use Rattle.floats_laws.proofs.Bounds.{add-mag, sub-mag, mul-mag, div-mag, max-mag}
 use Rattle.floats_laws.proofs.Choosing.{max-right, min-fits, min-right}
@@ -32,8 +32,8 @@ use Rattle.elementary_laws.proofs.PowerRises.{exp2-like}
 use Rattle.elementary_laws.proofs.PowerValues.{exp2-exact, power-fits}
 use Rattle.elementary_laws.proofs.RootRises.{lowest, lowest-root, highest-root, sqrt-fits, sqrt-window}
 use Rattle.settings.specs.Settings.{lawfulRate}
-use Rattle.registers.specs.Register.{nil, half, minHz, lowProbability}
-use Rattle.pitch.specs.Cloud.{two, lowerOf, inRamp, offsetOf, frequencyOf}
+use Rattle.registers.specs.Register.{minHz, lowProbability}
+use Rattle.pitch.specs.Cloud.{lowerOf, inRamp, offsetOf, frequencyOf}
 use Rattle.registers.proofs.Logs.{log-of-min}
 use Rattle.pitch_laws.proofs.Ramp.{leastHz, mostHz, low, ramp, slope, mass, halved, ramp-is, slope-is, mass-is, least-log, most-log, square-is, double-is, least-divisor, looked}
 

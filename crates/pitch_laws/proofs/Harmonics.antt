@@ -20,8 +20,8 @@ use Rattle.floats_laws.proofs.Casting.{whole-rises}
 use Rattle.floats_laws.proofs.Keys.{key, le-key, lt-key}
 use Rattle.floats_laws.proofs.Rules.{le-right, le-trans}
 use Rattle.draws.specs.Draws.{randomOf}
-use Rattle.registers.specs.Register.{nil, one}
-use Rattle.harmonics.specs.Partials.{asFloat, countOf, keptOf, allowedOf, drawnOf, partialsOf}
+use Rattle.floats.specs.Names.{nil, one, asFloat}
+use Rattle.harmonics.specs.Partials.{countOf, keptOf, allowedOf, drawnOf, partialsOf}
 use Rattle.pitch_laws.proofs.Picks.{Drawable, Chosen, chosen-drawn, nil-gone}
 use Rattle.harmonics.proofs.Turns.{count-most, length-drawn}
 

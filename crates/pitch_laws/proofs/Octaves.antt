@@ -13,7 +13,7 @@ use lib.Ieee.Fits.{down-pos, add-fits, sub-fits, mul-fits}
 use lib.Ieee.Exact.{HasValue}
 use lib.Ieee.Scale.{finite}
 use Rattle.lists.specs.Pick.{by-case, either}
-use Rattle.floats.specs.Names.{f32, add32, sub32, mul32}
+use Rattle.floats.specs.Names.{f32, add32, sub32, mul32, nil, half, one, asFloat}
 use Rattle.choices.specs.Choose.{max}
 use Rattle.floats.specs.Whole.{floor, ceil}
 use Rattle.floats_laws.proofs.Bounds.{sub-mag}
@@ -30,8 +30,7 @@ use Rattle.elementary.specs.Log2.{fallOf, cellOf, fractionOf, joinedOf, logOf, 
 use Rattle.floats_laws.proofs.Spans.{lt-le}
 use Rattle.elementary_laws.proofs.LogExact.{log2-fits}
 use Rattle.elementary_laws.proofs.LogRises.{least, most, log2-rises, log2-within}
-use Rattle.registers.specs.Register.{nil, half, one, minHz}
-use Rattle.harmonics.specs.Partials.{asFloat}
+use Rattle.registers.specs.Register.{minHz}
 use Rattle.octaves.specs.Octave.{upwardOf, lastOf, chosenFrom, chosenOf, firstOf, octavesOf, drawnOf, octaveOf, upperOf, lowerOf, registerOf}
 use Rattle.settings.specs.declared.Direction.{Direction}
 use Rattle.pitch_laws.proofs.Harmonics.{one-is}

@@ -10,10 +10,9 @@ use lib.Dec.{eqb}
 use lib.ListN.{length, getD, set, length-set}
 use lib.Seq.{getD-set-same, getD-set-other}
 use lib.Ieee.{Float, nan, lt, le, eq, ofBits, ofFields, odd}
-use Rattle.floats.specs.Names.{sub32, mul32}
+use Rattle.floats.specs.Names.{sub32, mul32, nil}
 use Rattle.lists.specs.Pick.{pick, by-case}
 use Rattle.draws.specs.Draws.{randomOf}
-use Rattle.registers.specs.Register.{nil}
 use Rattle.harmonics.specs.Partials.{sumOf, harmonicFrom, harmonicOf, withoutOf, drawnFrom}
 use Rattle.harmonics.proofs.Turns.{length-without}
 

@@ -5,15 +5,15 @@ use lib.Count.{leadingZeros, trailingZeros}
 use lib.Dec.{T}
 use lib.Ieee.{Float, isNan, lt, le, eq, toBits, round, sum, add, sub, neg, mul, div, ofInt, ofBits, ofFields, size, span, climb, units, odd}
 use lib.Ieee.Scale.{finite}
-use Rattle.floats.specs.Names.{f32, add32, sub32, mul32}
+use Rattle.floats.specs.Names.{f32, add32, sub32, mul32, nil, half, two}
 use Rattle.choices.specs.Choose.{max}
 use Rattle.floats_laws.proofs.Rising.{nought}
 use Rattle.elementary.specs.Rung.{rungOf, digitsOf}
 use Rattle.parabolas.specs.Parabolas.{tops, topOf, slopes, slopeOf, bends, bendOf}
 use Rattle.elementary.specs.Log2.{fallOf, cellOf, fractionOf, joinedOf, logOf, log2Of}
 use Rattle.elementary_laws.proofs.RootRises.{lowest, lowest-root}
-use Rattle.registers.specs.Register.{nil, half, minHz, lowProbability}
-use Rattle.pitch.specs.Cloud.{two, rampOf, massOf}
+use Rattle.registers.specs.Register.{minHz, lowProbability}
+use Rattle.pitch.specs.Cloud.{rampOf, massOf}
 use Rattle.pitch.specs.Cloud as cloud
 use Rattle.registers.proofs.Logs.{log-of-full}
 

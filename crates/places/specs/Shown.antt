@@ -4,11 +4,11 @@ use mathlib.Core.List.{[], _∷_}
 use lib.Dec.{eqb}
 use lib.Ieee.{Float, binary32, lt}
 use Rattle.lists.specs.Pick.{pick}
-use Rattle.floats.specs.Names.{add32, sub32, mul32, div32, div64}
+use Rattle.floats.specs.Names.{add32, sub32, mul32, div32, div64, nil, one}
 use Rattle.casts.specs.Convert.{convert}
 use Rattle.elementary.specs.Log2.{log2Of}
 use Rattle.pool.specs.declared.Particle.{Particle}
-use Rattle.windows.specs.Opening.{nil, one, taperOf}
+use Rattle.windows.specs.Opening.{taperOf}
 use Rattle.places.specs.declared.Shown.{Shown}
 use Rattle.places.specs.Freed.{secondsOf, retirementOf}
 

@@ -8,7 +8,7 @@ use Rattle.refusals.specs.declared.Answer.{Answer}
 use Rattle.refusals.specs.Numbers.{answerOf}
 use Rattle.windows.specs.declared.Window.{Window}
 use Rattle.windows.specs.declared.Frame.{Frame}
-use Rattle.windows.specs.Opening.{nil}
+use Rattle.floats.specs.Names.{nil}
 
 unfoldable pub windowAt : List Float → ℕ → Window
 windowAt flat j = record { «center_log2_hz» = getD flat (3 * j) nil; «radius_octaves» = getD flat (3 * j + 1) nil; amplitude = getD flat (3 * j + 2) nil }

@@ -2,7 +2,8 @@
 ghost use mathlib.Core.Path.{_≡_};
 ghost use Prim.Native.Nat.{_<_};
 ghost use lib.ListN.{getD};
-ghost use Rattle.windows.specs.Opening.{nil, taperOf, opennessOf, attenuationOf};
+ghost use Rattle.floats.specs.Names.{nil};
+ghost use Rattle.windows.specs.Opening.{taperOf, opennessOf, attenuationOf};
 ghost use Rattle.bin_tables.specs.Bins.{preparedOf};
 ghost use Rattle.mask.specs.Gains.{gainsOf};
 ghost use Rattle.probe.specs.Frames.{windowAt, frameOf, numbered, numberedBoth};

@@ -10,7 +10,7 @@ use lib.Ieee.Bits.{ofBits-fits}
 use Rattle.lists.specs.Pick.{pick, picked, passed, either}
 use Rattle.lists.specs.Table.{from}
 use Rattle.lists.specs.Walk.{walk}
-use Rattle.floats.specs.Names.{f32, f64, sub32, mul32}
+use Rattle.floats.specs.Names.{f32, f64, sub32, mul32, nil}
 use Rattle.choices.specs.Choose.{clamp, abs}
 use Rattle.floats.specs.Remainder.{remEuclid}
 use Rattle.words.specs.Word.{product}
@@ -18,7 +18,6 @@ use Rattle.draws.specs.Draws.{mixOf, keyOf, randomOf}
 use Rattle.elementary.specs.Rung.{rungOf, digitsOf}
 use Rattle.elementary.specs.Sqrt.{scaledOf, rootBits, sqrtOf}
 use Rattle.elementary.proofs.Squares.{root-is, perfect}
-use Rattle.registers.specs.Register.{nil}
 use Rattle.harmonics.specs.Partials.{countOf, keptOf, allowedOf, sumOf, harmonicFrom, harmonicOf, withoutOf, drawnFrom, drawnOf, partialsOf}
 use Rattle.pitch_laws.proofs.Harmonics.{no-room}
 use Rattle.mending.specs.Mending.{finiteOr, phaseOf}

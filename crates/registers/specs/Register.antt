@@ -1,18 +1,8 @@
 -- How a register counts by its height, line by line as the Rust. Definitions only.
 use lib.Ieee.{Float}
-use Rattle.floats.specs.Names.{f32, add32, sub32, mul32, div32}
+use Rattle.floats.specs.Names.{f32, add32, sub32, mul32, div32, nil, one}
 use Rattle.choices.specs.Choose.{clamp}
 use Rattle.elementary.specs.Log2.{log2Of}
-
--- 0.0, 0.5 and 1.0
-abbrev pub nil : Float
-nil = f32 0x00000000
-
-abbrev pub half : Float
-half = f32 0x3f000000
-
-abbrev pub one : Float
-one = f32 0x3f800000
 
 -- PARTICLE_MIN_HZ, 20.0, and PARTICLE_FULL_OPENING_HZ, 440.0
 abbrev pub minHz : Float

@@ -5,7 +5,7 @@ use lib.Dec.{ltb}
 use lib.Ieee.{Float, le}
 use lib.Ieee.Scale.{finite}
 use Rattle.lists.specs.Pick.{pick}
-use Rattle.floats.specs.Names.{f32}
+use Rattle.floats.specs.Names.{f32, nil, one}
 use Rattle.refusals.specs.declared.Answer.{Answer}
 use Rattle.refusals.specs.declared.Answer.the-variants.{Taken, Refused}
 use Rattle.refusals.specs.declared.Refusal.the-variants.{Size}
@@ -13,13 +13,6 @@ use Rattle.settings.specs.declared.Config.{Config}
 use Rattle.settings.specs.declared.Shape.{Shape}
 use Rattle.settings.specs.declared.Shape.the-variants.{Sprinkle, Cloud}
 use Rattle.settings.specs.declared.Direction.the-variants.{Forward}
-
--- 0.0 and 1.0
-abbrev pub nil : Float
-nil = f32 0x00000000
-
-abbrev pub one : Float
-one = f32 0x3f800000
 
 abbrev pub isSprinkle : Shape → Bool
 isSprinkle Sprinkle = true

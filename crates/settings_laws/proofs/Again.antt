@@ -10,7 +10,7 @@ use lib.Ieee.Fits.{cond-fits}
 use lib.Ieee.Scale.{finite}
 use lib.Ieee.Bits.{is-true, ofBits-fits}
 use Rattle.lists.specs.Pick.{pick, by-case}
-use Rattle.floats.specs.Names.{f32}
+use Rattle.floats.specs.Names.{f32, nil, one}
 use Rattle.choices.specs.Choose.{clamp, abs}
 use Rattle.floats.specs.Remainder.{remEuclid}
 use Rattle.floats_laws.proofs.Rules.{between-finite}
@@ -18,7 +18,6 @@ use Rattle.floats_laws.proofs.Rising.{nought}
 use Rattle.floats_laws.proofs.Euclid.{euclid-within}
 use Rattle.floats_laws.proofs.Again.{clamp-again, clamp-finite, euclid-fits, euclid-again}
 use Rattle.settings.specs.declared.Config.{Config}
-use Rattle.settings.specs.Settings.{nil, one}
 use Rattle.mending.specs.Mending.{finiteOr, heldTo, attackOf, releaseMsOf, partialsOf, rolloffOf, rateOf, sizeOf, phaseOf, mendedOf}
 
 -- ---- `finite`

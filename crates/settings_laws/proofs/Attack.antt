@@ -14,12 +14,11 @@ use lib.Ieee.Exact.{HasValue, round-exact}
 use lib.Ieee.Order.{round-mono}
 use denote.Floats.{passes}
 use Rattle.lists.specs.Pick.{by-case}
-use Rattle.floats.specs.Names.{add32, div32}
+use Rattle.floats.specs.Names.{add32, div32, one}
 use Rattle.floats_laws.proofs.Mag.{Upto, Least, le-of}
 use Rattle.floats_laws.proofs.Rising.{nought}
 use Rattle.floats_laws.proofs.Bounds.{add-upto}
 use Rattle.floats_laws.proofs.Spans.{le-lt, lt-le}
-use Rattle.settings.specs.Settings.{one}
 
 -- ---- numbers on the grid of 1 / 1024
 gridded : (k : ℕ) → k < 2 ^ 24 → HasValue (round binary32 false k 1024) false k 1024

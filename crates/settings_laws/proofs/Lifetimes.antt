@@ -6,7 +6,7 @@ use lib.Ieee.{Float, binary32, ofBits, lt, le, eq, fits, isNan}
 use lib.Ieee.Scale.{finite}
 use lib.Ieee.Bits.{is-false, ofBits-fits}
 use Rattle.lists.specs.Pick.{either}
-use Rattle.floats.specs.Names.{f32, add32, sub32, mul32, div32}
+use Rattle.floats.specs.Names.{f32, add32, sub32, mul32, div32, nil, one, two}
 use Rattle.choices.specs.Choose.{max, clamp}
 use Rattle.floats_laws.proofs.Rules.{finite-number, le-trans, between-finite}
 use Rattle.floats_laws.proofs.Rising.{nought}
@@ -25,9 +25,9 @@ use Rattle.settings.specs.declared.Shape.{Shape}
 use Rattle.settings.specs.declared.Shape.the-variants.{Sprinkle, Cloud}
 use Rattle.settings.specs.declared.Direction.{Direction}
 use Rattle.settings.specs.declared.Direction.the-variants.{Forward, Reverse, Alternate}
-use Rattle.settings.specs.Settings.{nil, one, maxHop, lawfulRate}
+use Rattle.settings.specs.Settings.{maxHop, lawfulRate}
 use Rattle.mending.specs.Mending.{finiteOr, heldTo, attackOf, releaseMsOf, rateOf, sizeOf, mendedOf}
-use Rattle.envelopes.specs.Envelope.{two, hopFloorOf, onsetOf, releaseOf, sprinkleOf, variationOf, rawOf, cloudLifetimeOf, cloudAttack, reverseAttack, cloudAttackOf, cloudOf, byShape, envelopeOf}
+use Rattle.envelopes.specs.Envelope.{hopFloorOf, onsetOf, releaseOf, sprinkleOf, variationOf, rawOf, cloudLifetimeOf, cloudAttack, reverseAttack, cloudAttackOf, cloudOf, byShape, envelopeOf}
 use Rattle.settings_laws.proofs.Again.{finite-or, or-fits}
 use Rattle.settings_laws.proofs.Seconds.{floor-upto, onset-least, onset-upto, release-least, release-upto}
 use Rattle.settings_laws.proofs.Attack.{Part, stage-part}

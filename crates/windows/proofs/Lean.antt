@@ -16,7 +16,8 @@ use Rattle.floats_laws.proofs.Gap.{one-number}
 use Rattle.floats_laws.proofs.Rising.{nought, sub-falls}
 use Rattle.floats_laws.proofs.Units.{one as i, one-fits, zero-fits}
 use Rattle.windows.specs.declared.Window.{Window}
-use Rattle.windows.specs.Opening.{nil, one, cubic, taperOf, insideOf}
+use Rattle.floats.specs.Names.{nil, one}
+use Rattle.windows.specs.Opening.{cubic, taperOf, insideOf}
 
 or-left : (a b : Bool) → T a → T (a || b)
 or-left true b h = tt

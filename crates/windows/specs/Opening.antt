@@ -6,18 +6,11 @@ use lib.ListN.{replicate}
 use lib.Ieee.{Float, le}
 use Rattle.lists.specs.Pick.{pick}
 use Rattle.lists.specs.Walk.{walk}
-use Rattle.floats.specs.Names.{f32, sub32, mul32, div32}
+use Rattle.floats.specs.Names.{f32, sub32, mul32, div32, nil, one}
 use Rattle.choices.specs.Choose.{max, clamp, abs}
 use Rattle.elementary.specs.Log2.{log2Of}
 use Rattle.windows.specs.declared.Window.{Window}
 use Rattle.windows.specs.declared.Frame.{Frame}
-
--- 0.0 and 1.0
-abbrev pub nil : Float
-nil = f32 0x00000000
-
-abbrev pub one : Float
-one = f32 0x3f800000
 
 -- ---- Window::default and Frame::default
 abbrev pub none : Window

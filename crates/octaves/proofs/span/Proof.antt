@@ -1,6 +1,6 @@
 -- `span` meets its contract: one test.
 use Rattle.lists.specs.Pick.{took, skipped}
-use Rattle.harmonics.specs.Partials.{asFloat}
+use Rattle.floats.specs.Names.{asFloat}
 use Rattle.octaves.specs.Octave.{spanOf}
 use lib.Dec.{ltb}
 use Prim.Native.Nat.{ℕ}

@@ -4,7 +4,8 @@ use mathlib.Core.Path.{ap, _∙_}
 use Prim.Native.Nat.{_-_}
 use Rattle.lists.specs.Walk.{Walked, walked-none, walked-more, walked-all}
 use Rattle.choices.specs.Choose.{max}
-use Rattle.windows.specs.Opening.{nil, opening, openedBy}
+use Rattle.floats.specs.Names.{nil}
+use Rattle.windows.specs.Opening.{opening, openedBy}
 use Rattle.windows.proofs.opened.Statement.{statement}
 use Rattle.windows.proofs.opened.Tie as tie
 

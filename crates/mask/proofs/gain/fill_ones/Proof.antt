@@ -3,7 +3,7 @@ use borrow.Author.Needs.{needs}
 use Prim.Native.Nat.{ℕ, _-_}
 use mathlib.Core.Path.{refl}
 use lib.ListN.{length}
-use Rattle.windows.specs.Opening.{one}
+use Rattle.floats.specs.Names.{one}
 use Rattle.lists.specs.Table.{Filled, filled-none, filled-more, filled-all}
 use Rattle.mask.proofs.gain.fill_ones.Statement.{statement}
 use Rattle.mask.proofs.gain.fill_ones.Tie as tie

@@ -2,7 +2,7 @@
 use mathlib.Core.Path.{sym, ap}
 use mathlib.Core.Bool.{Bool, _||_}
 use lib.Ieee.{eq}
-use Rattle.windows.specs.Opening.{nil}
+use Rattle.floats.specs.Names.{nil}
 use Rattle.mask.specs.Gains.{quietOf}
 use Rattle.mask.proofs.gain.quiet.Statement.{statement}
 use Rattle.mask.proofs.gain.quiet.Tie as tie

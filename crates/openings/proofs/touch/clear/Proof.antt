@@ -3,7 +3,7 @@ use borrow.Author.Needs.{needs}
 use Prim.Native.Nat.{ℕ, _-_}
 use mathlib.Core.Path.{refl}
 use lib.ListN.{length}
-use Rattle.windows.specs.Opening.{nil}
+use Rattle.floats.specs.Names.{nil}
 use Rattle.lists.specs.Table.{Filled, filled-none, filled-more, filled-all}
 use Rattle.openings.proofs.touch.clear.Statement.{statement}
 use Rattle.openings.proofs.touch.clear.Tie as tie

@@ -7,7 +7,7 @@ use borrow.Author.Tests.{eq-eqb, ne-eqb}
 use lib.Ieee.{Float}
 use Rattle.lists.specs.Pick.{took, skipped}
 use Rattle.lists.specs.Table.{table}
-use Rattle.windows.specs.Opening.{nil}
+use Rattle.floats.specs.Names.{nil}
 use Rattle.refusals.specs.declared.Answer.{Answer}
 use Rattle.refusals.specs.declared.Answer.the-variants.{Taken}
 use Rattle.openings.specs.Opened.{openAt, openedOf}

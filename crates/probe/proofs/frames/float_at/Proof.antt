@@ -2,7 +2,7 @@
 use borrow.Author.Needs.{needs}
 use mathlib.Core.Path.{sym}
 use lib.Ieee.{nan}
-use Rattle.windows.specs.Opening.{nil}
+use Rattle.floats.specs.Names.{nil}
 use lib.ListN.{List·getD-eq-default}
 use Rattle.lists.specs.Default.{getD-any}
 use Rattle.probe.proofs.frames.float_at.Statement.{statement}
