@@ -40,7 +40,7 @@ pub fn max_hz(sample_rate: f64) -> f32
 fn free_root(phase: f64) -> f32
     ensures { λ r. ⌜ r ≡ freeRootOf phase ⌝ }
 {
-    let phrase = floats::f64_to_u64(floats::floor64(phase / timing::SPRINKLE_GROUP_CYCLES));
+    let phrase = floats::f64_to_u64(floats::floor64(phase / starts::SPRINKLE_GROUP_CYCLES));
     FREE_ROOT_MIN_HZ * elementary::pow8(draws::random(phrase, draws::FREE_ROOT))
 }
 
