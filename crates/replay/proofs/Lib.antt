@@ -1,3 +1,1 @@
-pub mod Joined
-pub mod Whole
 pub mod States

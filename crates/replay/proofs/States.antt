@@ -16,9 +16,9 @@ use Rattle.steps.specs.Steps.{fresh}
 use Rattle.turns.specs.declared.Turn.{Turn}
 use Rattle.turns.specs.Turns.{turnOf}
 use Rattle.turns.proofs.Laws.{turn-taken, turn-three}
-use Rattle.replay.specs.State.{stateBytes}
+use Rattle.states.specs.State.{stateBytes}
 use Rattle.replay.specs.Replay.{afterOf, statesFrom, statesOf, statesCount, statesLeft}
-use Rattle.replay.proofs.Whole.{state-length}
+use Rattle.states.proofs.Whole.{state-length}
 
 module _ (start f : ℕ) (run : Run) (n : ℕ) (s : List ℕ) where
   none-left : turnOf run n s .taken ≡ 0 → statesFrom start (suc f) run n s ≡ []

@@ -1,3 +1,1 @@
-pub mod Numbers
-pub mod State
 pub mod Replay

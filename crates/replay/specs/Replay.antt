@@ -12,7 +12,7 @@ use Rattle.turns.specs.Turns.{turnOf}
 use Rattle.turns.specs.Late.{countedOf}
 use Rattle.listing.specs.declared.Listed.{Listed}
 use Rattle.listing.specs.declared.Listed.the-variants.{Count, NoRoom}
-use Rattle.replay.specs.State.{stateBytes}
+use Rattle.states.specs.State.{stateBytes}
 
 -- no room is 0
 abbrev pub countOf : Listed → ℕ

@@ -10,9 +10,6 @@ ghost use Rattle.replay.specs.Replay.{countOf, afterOf, statesFrom, stat
 use listing::Listed;
 use steps::Run;
 
-mod numbers;
-mod written;
-
 fn count(listed: Listed) -> usize
     ensures { λ r. ⌜ r ≡ countOf listed ⌝ }
 {
@@ -74,7 +71,7 @@ fn put_states(
         let next = turn.run;
         run = after(start, n, next);
         let engine = run.engine;
-        w = written::put_engine(out, w, engine);
+        w = states::put_state(out, w, engine);
         at = at + k;
         n = n + 1;
     }

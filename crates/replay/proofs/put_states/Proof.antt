@@ -5,6 +5,7 @@ use mathlib.Core.Path.{_≡_, refl, _∙_}
 use native.Mathlib.Omega.{arith}
 use lib.ListN.{length, drop}
 use Rattle.script.proofs.Part.{rest}
+use Rattle.text.proofs.Laws.{piece}
 use Rattle.turns.proofs.Laws.{taken-left}
 use Rattle.replay.specs.Replay.{statesFrom}
 use Rattle.replay.proofs.States.{Goes, stop, go-on}
@@ -50,8 +51,8 @@ returns c =
 after-requires : tie.Need-after-requires Inv-loop μ-loop
 after-requires c κs = search needs
 
-put-engine-requires : tie.Need-put-engine-requires Inv-loop μ-loop
-put-engine-requires c κs = search needs
+put-state-requires : tie.Need-put-state-requires Inv-loop μ-loop
+put-state-requires c κs = search needs
 
 add-at : tie.Need-add-at Inv-loop μ-loop
 add-at c =
@@ -85,7 +86,7 @@ loop-again c =
     let eq = rw (rest (l .at) (a .script .now)) at (c .before .before .before .before .before .before .before .before .one-turn .ensures) in
     let le = taken-left (l .run) (l .n) (l .at) (a .script .now) t eq in
     let go = c .before .before .before .before .before .before .before .if1 .left in
-    let put = c .before .before .put-engine .ensures in (
+    let put = piece (c .before .before .put-state .ensures) in (
       omega (arith, le),
       omega arith,
       omega (arith, go),
@@ -108,7 +109,7 @@ put-states-spec =
     same-length
     returns
     after-requires
-    put-engine-requires
+    put-state-requires
     add-at
     add-n
     loop-less

@@ -1,0 +1,2 @@
+mod Joined
+pub mod Whole
