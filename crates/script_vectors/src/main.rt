@@ -1,7 +1,5 @@
 // Replays stored scripts (tests/answers/scripts.txt says which, and the oracle answered them): the
 // listing byte for byte, or the last frame by its digest. Says how many differ.
-ghost use mathlib.Core.Bool.{true};
-ghost use mathlib.Core.Path.{_≡_};
 ghost use Prim.Native.Nat.{_≤_};
 ghost use lib.ListN.{length};
 use listing::Listed;
@@ -100,22 +98,6 @@ fn read_script(script: &mut [u8], size: usize) -> usize
     at
 }
 
-fn same(a: &[u8], b: &[u8]) -> bool
-    ensures { λ r. ⌜ (r ≡ true → now (a .entry) ≡ now (b .entry)) ⌝ }
-{
-    if a.len() != b.len() {
-        return false;
-    }
-    let mut i: usize = 0;
-    while i < a.len() {
-        if a[i] != b[i] {
-            return false;
-        }
-        i = i + 1;
-    }
-    true
-}
-
 fn listing_differs(line: &[u8; 84], script: &mut [u8], want: &mut [u8], out: &mut [u8]) -> bool {
     let n = read_script(script, vectors::second(line) as usize);
     let m = until(0, vectors::third(line) as usize, want.len());
@@ -124,7 +106,7 @@ fn listing_differs(line: &[u8; 84], script: &mut [u8], want: &mut [u8], out: &mu
     match listing::list_script_from(start, &script[..n], out) {
         Listed::Count(k) => {
             if k <= out.len() {
-                return !same(&out[..k], &want[..m]);
+                return !vectors::same(&out[..k], &want[..m]);
             }
             true
         }

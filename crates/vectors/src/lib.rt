@@ -1,5 +1,7 @@
 // A line of stored cases: the operation's number in two hexadecimal digits, its name, three
 // operands and the answer in sixteen each, and the line's end.
+ghost use mathlib.Core.Bool.{true};
+ghost use mathlib.Core.Logic.{_↔_};
 ghost use mathlib.Core.Path.{_≡_};
 ghost use Prim.Native.Nat.{_+_, _≤_, _<_};
 ghost use Rattle.vectors.specs.Line.{digitOf, numberAt};
@@ -80,4 +82,21 @@ pub fn say(cases: u64, wrong: u64) {
     io::write_all(1, b" cases, ");
     io::print_decimal(1, wrong);
     io::write_all(1, b" differ\n");
+}
+
+// Whether two texts are one, byte for byte.
+pub fn same(a: &[u8], b: &[u8]) -> bool
+    ensures { λ r. ⌜ (r ≡ true) ↔ (now (a .entry) ≡ now (b .entry)) ⌝ }
+{
+    if a.len() != b.len() {
+        return false;
+    }
+    let mut i: usize = 0;
+    while i < a.len() {
+        if a[i] != b[i] {
+            return false;
+        }
+        i = i + 1;
+    }
+    true
 }
