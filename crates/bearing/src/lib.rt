@@ -112,7 +112,7 @@ fn choose(engine: Engine, index: u64, own: usize) -> usize
         return own;
     }
     let sources = engine.sources;
-    sources::choose(
+    choosing::choose(
         sources,
         engine.next.last_source,
         draws::random(index, draws::SOURCE),
