@@ -9,8 +9,8 @@ use Rattle.voices.specs.declared.Voice.{Voice}
 use Rattle.voices.specs.Voices.{freeVoiceOf, sourceVoiceOf}
 use Rattle.births.specs.Births.{newbornOf}
 use Rattle.pool.specs.declared.Particle.{Particle}
-use Rattle.pool.specs.Pool.{freePlace}
-use Rattle.sources.specs.Sources.{chosenOf}
+use Rattle.vacancies.specs.Vacancies.{freePlace}
+use Rattle.choosing.specs.Choosing.{chosenOf}
 use Rattle.state.specs.declared.Engine.{Engine}
 use Rattle.state.specs.declared.Next.{Next}
 use Rattle.state.specs.declared.Tally.{Tally}

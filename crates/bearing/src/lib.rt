@@ -65,7 +65,7 @@ fn admit(engine: Engine, index: u64, slot: usize) -> Engine
 {
     let tally = engine.tally;
     let particles = engine.particles;
-    let place = pool::free_place(particles);
+    let place = vacancies::free_place(particles);
     let mut out = engine;
     if place < 64 {
         let p = newborn(engine, index, slot);
@@ -112,7 +112,7 @@ fn choose(engine: Engine, index: u64, own: usize) -> usize
         return own;
     }
     let sources = engine.sources;
-    sources::choose(
+    choosing::choose(
         sources,
         engine.next.last_source,
         draws::random(index, draws::SOURCE),

@@ -1,6 +1,6 @@
 // The engine's calls, all but `frame`: an engine goes in and comes back.
 ghost use mathlib.Core.Path.{_≡_};
-ghost use Rattle.pool.specs.Pool.{activeCount};
+ghost use Rattle.vacancies.specs.Vacancies.{activeCount};
 use state::Engine;
 
 mod make;
@@ -35,5 +35,5 @@ pub fn active_count(engine: Engine) -> usize
     ensures { λ r. ⌜ r ≡ activeCount (engine .particles) ⌝ }
 {
     let particles = engine.particles;
-    pool::active_count(particles)
+    vacancies::active_count(particles)
 }

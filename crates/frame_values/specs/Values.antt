@@ -2,7 +2,7 @@
 use Prim.Native.Nat.{ℕ, _/_}
 use lib.Ieee.{Float, binary32, toBits, toUnsigned}
 use Rattle.words.specs.Word.{product}
-use Rattle.pool.specs.Pool.{activeCount}
+use Rattle.vacancies.specs.Vacancies.{activeCount}
 use Rattle.state.specs.declared.Engine.{Engine}
 use Rattle.frame_values.specs.declared.Values.{Values}
 

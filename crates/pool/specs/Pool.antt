@@ -1,12 +1,10 @@
--- The places of the particles, line by line as the Rust has them. A place is free where its particle is not active. Definitions only.
+-- The particles in the places, line by line as the Rust has them. A place is free where its particle is not active. Definitions only.
 use Prim.Native.Nat.{ℕ}
-use mathlib.Core.Bool.{Bool, false, not}
-use mathlib.Core.List.{List, [], _∷_}
+use mathlib.Core.Bool.{false}
+use mathlib.Core.List.{[], _∷_}
 use lib.Dec.{eqb}
 use lib.Ieee.{Float}
 use Rattle.lists.specs.Pick.{pick}
-use Rattle.lists.specs.Walk.{count}
-use Rattle.lists.specs.First.{first}
 use Rattle.floats.specs.Names.{f32, f64}
 use Rattle.pool.specs.declared.Particle.{Particle}
 use Rattle.pool.specs.declared.Retired.{Retired}
@@ -82,18 +80,3 @@ retunedOf hz p =
 
 unfoldable pub retuneOne : ℕ → Float → Particle → Particle
 retuneOne slot hz p = pick (p .active) (pick (eqb (p .source) slot) (retunedOf hz p) p) p
-
--- ---- who holds a place
-abbrev pub isHeld : ℕ → Particle → Bool
-isHeld i p = p .active
-
-abbrev pub isFree : ℕ → Particle → Bool
-isFree i p = not (p .active)
-
--- self.particles.iter().filter(|p| p.active).count()
-abbrev pub activeCount : List Particle → ℕ
-activeCount = count isHeld
-
--- self.particles.iter_mut().find(|p| !p.active): the lowest free place, or the number of places
-abbrev pub freePlace : List Particle → ℕ
-freePlace = first isFree

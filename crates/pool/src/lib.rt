@@ -1,8 +1,8 @@
-// The 64 places of the particles: who holds one, the lowest free one, and what retirement and a new
-// pitch do to those who hold one.
+// The 64 places of the particles: what holds one, and what retirement and a new pitch do to those that
+// hold one.
 ghost use mathlib.Core.Path.{_≡_};
 ghost use mathlib.Core.List.{map};
-ghost use Rattle.pool.specs.Pool.{freeParticle, firstOf, retiredOf, retireOne, retireBoundOne, retuneOne, activeCount, freePlace};
+ghost use Rattle.pool.specs.Pool.{freeParticle, firstOf, retiredOf, retireOne, retireBoundOne, retuneOne};
 
 // The slot of a particle that follows none.
 pub const NO_SOURCE: usize = 256;
@@ -148,29 +148,4 @@ pub fn retune(particles: [Particle; 64], slot: usize, hz: f32) -> [Particle; 64]
         out[i] = retune_one(p, slot, hz);
     }
     out
-}
-
-// How many places are held.
-pub fn active_count(particles: [Particle; 64]) -> usize
-    ensures { λ r. ⌜ r ≡ activeCount particles ⌝ }
-{
-    let mut n: usize = 0;
-    for i in 0..64 {
-        if particles[i].active {
-            n += 1;
-        }
-    }
-    n
-}
-
-// The lowest free place; 64 where all are held.
-pub fn free_place(particles: [Particle; 64]) -> usize
-    ensures { λ r. ⌜ r ≡ freePlace particles ⌝ }
-{
-    for i in 0..64 {
-        if particles[i].active {} else {
-            return i;
-        }
-    }
-    64
 }

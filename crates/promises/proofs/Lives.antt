@@ -17,7 +17,8 @@ use Rattle.floats.specs.Names.{f64}
 use Rattle.pool.specs.declared.Particle.{Particle}
 use Rattle.pool.specs.declared.Retired.{Retired}
 use Rattle.pool.specs.declared.Retired.the-variants.{Not, At}
-use Rattle.pool.specs.Pool.{freeParticle, firstOf, retiredOf, retireOne, retireBoundOne, retunedOf, retuneOne, isFree, freePlace}
+use Rattle.pool.specs.Pool.{freeParticle, firstOf, retiredOf, retireOne, retireBoundOne, retunedOf, retuneOne}
+use Rattle.vacancies.specs.Vacancies.{isFree, freePlace}
 use Rattle.state.specs.declared.Engine.{Engine}
 use Rattle.bearing.specs.Birth.{chosenFor, voiceFor, newbornFor, isBarred, admittedOf, attemptedOf, bornOf}
 use Rattle.changes.specs.Changes.{retiredAll}

@@ -15,7 +15,8 @@ use Rattle.lists.specs.First.{first-is}
 use Rattle.pool.specs.declared.Particle.{Particle}
 use Rattle.pool.specs.declared.Retired.{Retired}
 use Rattle.pool.specs.declared.Retired.the-variants.{Not, At}
-use Rattle.pool.specs.Pool.{freeParticle, isFree, freePlace}
+use Rattle.pool.specs.Pool.{freeParticle}
+use Rattle.vacancies.specs.Vacancies.{isFree, freePlace}
 use Rattle.state.specs.declared.Engine.{Engine}
 use Rattle.state.specs.State.{grown, withNext, withTally}
 use Rattle.tallies.specs.Tallies.{droppedOne, bornOne}

@@ -12,7 +12,8 @@ use lib.Ieee.{Float}
 use Rattle.lists.specs.Pick.{pick, either}
 use Rattle.pool.specs.declared.Particle.{Particle}
 use Rattle.sources.specs.declared.Source.{Source}
-use Rattle.sources.specs.Sources.{isEligible, isAlternative, nthFrom, alternativesOf, choiceOf, chosenOf}
+use Rattle.sources.specs.Sources.{isEligible}
+use Rattle.choosing.specs.Choosing.{isAlternative, nthFrom, alternativesOf, choiceOf, chosenOf}
 use Rattle.state.specs.declared.Engine.{Engine}
 use Rattle.state.specs.declared.Next.{Next}
 use Rattle.state.specs.declared.Tally.{Tally}

@@ -4,10 +4,10 @@ use mathlib.Core.Path.{sym, _∙_}
 use mathlib.Core.Logic.{⊎-elim}
 use Rattle.lists.specs.Pick.{picked, passed}
 use Rattle.lists.specs.Walk.{Walked, counting, walked-none, walked-more, walked-all}
-use Rattle.sources.specs.Sources.{isAlternative}
+use Rattle.choosing.specs.Choosing.{isAlternative}
 use borrow.Author.Needs.{needs}
-use Rattle.sources.proofs.alternatives.Statement.{statement}
-use Rattle.sources.proofs.alternatives.Tie as tie
+use Rattle.choosing.proofs.alternatives.Statement.{statement}
+use Rattle.choosing.proofs.alternatives.Tie as tie
 
 abbrev Inv-loop : tie.InvT-loop
 Inv-loop last sources n₀ i₀ n i = Walked (counting (isAlternative last)) 256 sources 0 i n × (n ≤ i)

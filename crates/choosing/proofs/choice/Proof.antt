@@ -5,11 +5,11 @@ use Rattle.lists.specs.Pick.{took, skipped}
 use borrow.Author.Tests.{lt-ltb, le-ltb}
 use lib.Dec.{ltb}
 use lib.Ieee.{Float, toUnsigned}
-use Rattle.sources.specs.Sources.{choiceOf}
+use Rattle.choosing.specs.Choosing.{choiceOf}
 use Rattle.floats.specs.Names.{mul32}
 use borrow.Author.Needs.{needs}
-use Rattle.sources.proofs.choice.Statement.{statement}
-use Rattle.sources.proofs.choice.Tie as tie
+use Rattle.choosing.proofs.choice.Statement.{statement}
+use Rattle.choosing.proofs.choice.Tie as tie
 
 u64-to-f32-requires : tie.Need-u64-to-f32-requires
 u64-to-f32-requires c κs = search needs

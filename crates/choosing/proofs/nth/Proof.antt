@@ -6,10 +6,10 @@ use mathlib.Core.Logic.{⊎-elim}
 use Rattle.lists.specs.Pick.{picked, passed}
 use Rattle.lists.specs.Rest.{Rest, rest-none, rest-next, rest-here, rest-all}
 use borrow.Author.Tests.{eq-eqb, ne-eqb}
-use Rattle.sources.specs.Sources.{nthFrom}
+use Rattle.choosing.specs.Choosing.{nthFrom}
 use borrow.Author.Needs.{needs}
-use Rattle.sources.proofs.nth.Statement.{statement}
-use Rattle.sources.proofs.nth.Tie as tie
+use Rattle.choosing.proofs.nth.Statement.{statement}
+use Rattle.choosing.proofs.nth.Tie as tie
 
 abbrev Inv-loop : tie.InvT-loop
 Inv-loop last n sources left₀ i₀ left i = Rest (nthFrom last) 256 sources n i left

@@ -2,10 +2,10 @@
 use mathlib.Core.Path.{sym, _∙_}
 use Rattle.lists.specs.Pick.{took, skipped}
 use borrow.Author.Tests.{eq-eqb, ne-eqb}
-use Rattle.sources.specs.Sources.{chosenOf}
+use Rattle.choosing.specs.Choosing.{chosenOf}
 use borrow.Author.Needs.{needs}
-use Rattle.sources.proofs.choose.Statement.{statement}
-use Rattle.sources.proofs.choose.Tie as tie
+use Rattle.choosing.proofs.choose.Statement.{statement}
+use Rattle.choosing.proofs.choose.Tie as tie
 
 alternatives-requires : tie.Need-alternatives-requires
 alternatives-requires c κs = search needs

@@ -2,10 +2,10 @@
 use mathlib.Core.Path.{refl}
 use Rattle.lists.specs.Pick.{took, skipped}
 use borrow.Author.Tests.{eq-eqb, ne-eqb}
-use Rattle.sources.specs.Sources.{isAlternative}
+use Rattle.choosing.specs.Choosing.{isAlternative}
 use borrow.Author.Needs.{needs}
-use Rattle.sources.proofs.alternative.Statement.{statement}
-use Rattle.sources.proofs.alternative.Tie as tie
+use Rattle.choosing.proofs.alternative.Statement.{statement}
+use Rattle.choosing.proofs.alternative.Tie as tie
 
 eligible-requires : tie.Need-eligible-requires
 eligible-requires c κs = search needs

@@ -3,10 +3,10 @@ use Prim.Native.Nat.{_-_}
 use mathlib.Core.Path.{ap}
 use Rattle.lists.specs.First.{Sought, sought-none, sought-more, sought-here, sought-all}
 use mathlib.Core.Bool.{not}
-use Rattle.pool.specs.Pool.{isFree}
+use Rattle.vacancies.specs.Vacancies.{isFree}
 use borrow.Author.Needs.{needs}
-use Rattle.pool.proofs.free_place.Statement.{statement}
-use Rattle.pool.proofs.free_place.Tie as tie
+use Rattle.vacancies.proofs.free_place.Statement.{statement}
+use Rattle.vacancies.proofs.free_place.Tie as tie
 
 abbrev Inv-loop : tie.InvT-loop
 Inv-loop particles i₀ i = Sought isFree 64 particles i

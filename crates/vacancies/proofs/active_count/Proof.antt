@@ -4,10 +4,10 @@ use mathlib.Core.Path.{_∙_}
 use mathlib.Core.Logic.{⊎-elim}
 use Rattle.lists.specs.Pick.{picked, passed}
 use Rattle.lists.specs.Walk.{Walked, counting, walked-none, walked-more, walked-all}
-use Rattle.pool.specs.Pool.{isHeld}
+use Rattle.vacancies.specs.Vacancies.{isHeld}
 use borrow.Author.Needs.{needs}
-use Rattle.pool.proofs.active_count.Statement.{statement}
-use Rattle.pool.proofs.active_count.Tie as tie
+use Rattle.vacancies.proofs.active_count.Statement.{statement}
+use Rattle.vacancies.proofs.active_count.Tie as tie
 
 abbrev Inv-loop : tie.InvT-loop
 Inv-loop particles n₀ i₀ n i = Walked (counting isHeld) 64 particles 0 i n × (n ≤ i)
