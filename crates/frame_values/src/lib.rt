@@ -27,11 +27,11 @@ fn milliseconds(samples: u64, rate: f64) -> u64
 pub fn values_of(engine: Engine, activity: f32) -> Values
     ensures { λ r. ⌜ r ≡ valuesOf engine activity ⌝ }
 {
-    let sample = engine::elapsed_samples(engine);
+    let sample = basics::elapsed_samples(engine);
     Values {
         sample,
         ms: milliseconds(sample, engine.prepared.sample_rate),
-        active: engine::active_count(engine) as u64,
+        active: basics::active_count(engine) as u64,
         births: engine.tally.births,
         dropped: engine.tally.dropped,
         hash: engine.tally.decision_hash,

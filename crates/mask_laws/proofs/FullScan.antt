@@ -24,7 +24,8 @@ use Rattle.choices.proofs.Sign.{abs-number}
 use Rattle.floats_laws.proofs.Units.{one as i, zero-fits, one-fits, unit}
 use Rattle.windows.specs.declared.Window.{Window}
 use Rattle.floats.specs.Names.{nil, one}
-use Rattle.windows.specs.Opening.{taperOf, insideOf, opennessOf, opening, openedBy}
+use Rattle.windows.specs.Opening.{taperOf, insideOf, opennessOf}
+use Rattle.attenuation.specs.Attenuation.{opening, openedBy}
 use Rattle.windows_laws.proofs.Tapered.{taper-finite}
 use Rattle.openings.specs.Opened.{touches, raisedOf, raising, openAt}
 use Rattle.bin_tables.specs.Logs.{lawfulLogs}

@@ -3,7 +3,8 @@ ghost use mathlib.Core.Path.{_≡_};
 ghost use Prim.Native.Nat.{_<_};
 ghost use lib.ListN.{getD};
 ghost use Rattle.floats.specs.Names.{nil};
-ghost use Rattle.windows.specs.Opening.{taperOf, opennessOf, attenuationOf};
+ghost use Rattle.windows.specs.Opening.{taperOf, opennessOf};
+ghost use Rattle.attenuation.specs.Attenuation.{attenuationOf};
 ghost use Rattle.bin_tables.specs.Bins.{preparedOf};
 ghost use Rattle.mask.specs.Gains.{gainsOf};
 ghost use Rattle.probe.specs.Frames.{windowAt, frameOf, numbered, numberedBoth};
@@ -76,7 +77,7 @@ pub extern "C" fn rk_probe_attenuation_db(
     ensures { λ r. ⌜ r ≡ attenuationOf (frameOf (now (flat .entry)) activity) «frequency_hz» «depth_db» ⌝ }
 {
     let frame = frame_of(flat, activity);
-    windows::attenuation_db(frame, frequency_hz, depth_db)
+    attenuation::attenuation_db(frame, frequency_hz, depth_db)
 }
 
 #[no_mangle]

@@ -17,7 +17,7 @@ use Rattle.settings.specs.declared.Config.{Config}
 use Rattle.settings.specs.Settings.{checkedOf, lawfulRate}
 use Rattle.state.specs.declared.Engine.{Engine}
 use Rattle.state.specs.State.{taken, refused}
-use Rattle.engine.specs.New.{newEngineOf}
+use Rattle.basics.specs.New.{newEngineOf}
 use Rattle.triggers.specs.declared.Triggered.{Triggered}
 use Rattle.triggers.specs.declared.Outcome.the-variants as O
 use Rattle.engine.specs.Advance.{advancedOf}

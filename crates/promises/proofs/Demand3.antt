@@ -14,7 +14,7 @@ use Rattle.state.specs.declared.Done.{Done}
 use Rattle.state.specs.declared.Engine.{Engine}
 use Rattle.state.specs.declared.Prepared.{Prepared}
 use Rattle.state.specs.Make.{noParticles, newOn}
-use Rattle.engine.specs.New.{newEngineOf, resetOf}
+use Rattle.basics.specs.New.{newEngineOf, resetOf}
 use Rattle.places.specs.Freed.{elapsedOf}
 use Rattle.runs.specs.Acts.{Act, perform, Call, actsOf, applied}
 use Rattle.lists.specs.Every.{every-at}

@@ -16,7 +16,7 @@ use Rattle.sources.specs.declared.Source.{Source}
 use Rattle.state.specs.declared.Done.{Done}
 use Rattle.state.specs.declared.Engine.{Engine}
 use Rattle.state.specs.Make.{preparedOf, newOn}
-use Rattle.engine.specs.New.{newEngineOf}
+use Rattle.basics.specs.New.{newEngineOf}
 use Rattle.engine.specs.Advance.{advancedOf}
 use Rattle.source_calls.specs.Slots.{setSourceOf, retireSourceOf, releaseSourceOf}
 use Rattle.changes.specs.Changes.{configuredOf}

@@ -2,7 +2,7 @@
 use mathlib.Core.List.{List, [], _∷_, _++_}
 use lib.Ieee.{Float}
 use Rattle.state.specs.declared.Engine.{Engine}
-use Rattle.engine.specs.New.{newEngineOf, resetOf}
+use Rattle.basics.specs.New.{newEngineOf, resetOf}
 use Rattle.runs.specs.Acts.{Act, Call, Single, Typed, actsOf, applied}
 
 unfoldable pub run : Engine → List Call → Engine

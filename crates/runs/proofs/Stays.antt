@@ -30,7 +30,7 @@ use Rattle.state.specs.declared.Prepared.{Prepared}
 use Rattle.triggers.specs.declared.Triggered.{Triggered}
 use Rattle.state.specs.State.{withConfig, withParticles, withWeights, pastSource}
 use Rattle.state.specs.Make.{preparedOf, noParticles, noSources, newOn}
-use Rattle.engine.specs.New.{newEngineOf, resetOf}
+use Rattle.basics.specs.New.{newEngineOf, resetOf}
 use Rattle.changes.specs.Changes.{retiredAll, aligned, reweighed, switched, offset, restarted, configuredTo, answeredBy, configuredOf, withNotes, notesOf, soughtNext, soughtClock, soughtOf}
 use Rattle.source_calls.specs.Slots.{withSource, placedOf, setSourceOf, retireSourceOf, releaseSourceOf}
 use Rattle.triggers.specs.Triggers.{isPermitted, reservedOf, triggeredBy, triggeredOf}

@@ -15,7 +15,7 @@ use Rattle.state.specs.declared.Done.{Done}
 use Rattle.triggers.specs.declared.Triggered.{Triggered}
 use Rattle.triggers.specs.declared.Outcome.{Outcome}
 use Rattle.triggers.specs.declared.Outcome.the-variants as O
-use Rattle.engine.specs.New.{newEngineOf, resetOf}
+use Rattle.basics.specs.New.{newEngineOf, resetOf}
 use Rattle.changes.specs.Changes.{configuredOf, notesOf, soughtOf}
 use Rattle.source_calls.specs.Slots.{setSourceOf, retireSourceOf, releaseSourceOf}
 use Rattle.engine.specs.Advance.{advancedOf}

@@ -1,7 +1,6 @@
-// What a frame shows: 192 windows over the logarithm of frequency, how far each opens a place there,
-// and what the whole frame leaves of it.
+// What a frame shows: 192 windows over the logarithm of frequency, and how far each opens a place there.
 ghost use mathlib.Core.Path.{_≡_};
-ghost use Rattle.windows.specs.Opening.{cubic, taperOf, opennessOf, openedBy, attenuationOf, emptyFrame};
+ghost use Rattle.windows.specs.Opening.{cubic, taperOf, opennessOf, emptyFrame};
 
 pub const MAX_PARTICLES: usize = 64;
 
@@ -54,31 +53,4 @@ pub fn openness(w: Window, log2_hz: f32) -> f32
     }
     let x = 1.0 - floats::abs32(log2_hz - w.center_log2_hz) / w.radius_octaves;
     w.amplitude * bent(floats::pick32(x < 0.0, 0.0, x))
-}
-
-// The widest opening that any window gives.
-fn opened(windows: [Window; 192], log2_hz: f32) -> f32
-    ensures { λ r. ⌜ r ≡ openedBy windows «log2_hz» ⌝ }
-{
-    let mut widest = 0.0;
-    for i in 0..192 {
-        let w = windows[i];
-        widest = floats::max32(widest, openness(w, log2_hz));
-    }
-    widest
-}
-
-pub fn attenuation_db(frame: Frame, frequency_hz: f32, depth_db: f32) -> f32
-    ensures { λ r. ⌜ r ≡ attenuationOf frame «frequency_hz» «depth_db» ⌝ }
-{
-    if depth_db <= 0.0 {
-        return 0.0;
-    }
-    let log = elementary::log2(floats::max32(
-        frequency_hz,
-        0.000000000000000000000000000000000000011754944,
-    ));
-    let windows = frame.windows;
-    let openness = opened(windows, log);
-    floats::clamp32(depth_db, 0.0, 60.0) * frame.activity * (1.0 - openness)
 }

@@ -1,7 +1,7 @@
 -- `active_count` meets its contract: the pool's count.
 use borrow.Author.Needs.{needs}
-use Rattle.engine.proofs.active_count.Statement.{statement}
-use Rattle.engine.proofs.active_count.Tie as tie
+use Rattle.basics.proofs.active_count.Statement.{statement}
+use Rattle.basics.proofs.active_count.Tie as tie
 
 active-count-requires : tie.Need-active-count-requires
 active-count-requires c κs = search needs

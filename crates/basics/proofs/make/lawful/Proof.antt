@@ -1,8 +1,8 @@
 -- `lawful` meets its contract: one test after the other.
 use Rattle.settings.specs.Settings.{lawfulRate}
 use borrow.Author.Needs.{needs}
-use Rattle.engine.proofs.make.lawful.Statement.{statement}
-use Rattle.engine.proofs.make.lawful.Tie as tie
+use Rattle.basics.proofs.make.lawful.Statement.{statement}
+use Rattle.basics.proofs.make.lawful.Tie as tie
 
 is-finite32-requires : tie.Need-is-finite32-requires
 is-finite32-requires c κs = search needs

@@ -5,9 +5,9 @@ use Prim.Native.Nat.{_-_}
 use Rattle.lists.specs.Walk.{Walked, walked-none, walked-more, walked-all}
 use Rattle.choices.specs.Choose.{max}
 use Rattle.floats.specs.Names.{nil}
-use Rattle.windows.specs.Opening.{opening, openedBy}
-use Rattle.windows.proofs.opened.Statement.{statement}
-use Rattle.windows.proofs.opened.Tie as tie
+use Rattle.attenuation.specs.Attenuation.{opening, openedBy}
+use Rattle.attenuation.proofs.opened.Statement.{statement}
+use Rattle.attenuation.proofs.opened.Tie as tie
 
 abbrev Inv-loop : tie.InvT-loop
 Inv-loop log2-hz windows widest₀ i₀ widest i = Walked (opening log2-hz) 192 windows nil i widest

@@ -1,9 +1,9 @@
 -- `attenuation_db` meets its contract: one test, then the callees' answers, put together.
 use Rattle.lists.specs.Pick.{picked, skipped}
-use Rattle.windows.specs.Opening.{attenuationOf, placeOf}
+use Rattle.attenuation.specs.Attenuation.{attenuationOf, placeOf}
 use borrow.Author.Needs.{needs}
-use Rattle.windows.proofs.attenuation_db.Statement.{statement}
-use Rattle.windows.proofs.attenuation_db.Tie as tie
+use Rattle.attenuation.proofs.attenuation_db.Statement.{statement}
+use Rattle.attenuation.proofs.attenuation_db.Tie as tie
 
 returns : tie.Need-returns
 unfolding attenuationOf

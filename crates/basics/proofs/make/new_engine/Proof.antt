@@ -2,12 +2,12 @@
 use mathlib.Core.Path.{sym, ap, _∙_}
 use Rattle.lists.specs.Pick.{took, skipped}
 use Rattle.state.specs.Make.{newOn}
-use Rattle.engine.specs.New.{newEngineOf}
+use Rattle.basics.specs.New.{newEngineOf}
 use Rattle.state.specs.State.{taken, refused}
 use Rattle.refusals.specs.declared.Refusal.the-variants.{Rate}
 use borrow.Author.Needs.{needs}
-use Rattle.engine.proofs.make.new_engine.Statement.{statement}
-use Rattle.engine.proofs.make.new_engine.Tie as tie
+use Rattle.basics.proofs.make.new_engine.Statement.{statement}
+use Rattle.basics.proofs.make.new_engine.Tie as tie
 
 lawful-requires : tie.Need-lawful-requires
 lawful-requires c κs = search needs

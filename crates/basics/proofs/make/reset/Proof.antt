@@ -1,8 +1,8 @@
 -- `reset` meets its contract: the callees' answers, put together.
-use Rattle.engine.specs.New.{resetOf}
+use Rattle.basics.specs.New.{resetOf}
 use borrow.Author.Needs.{needs}
-use Rattle.engine.proofs.make.reset.Statement.{statement}
-use Rattle.engine.proofs.make.reset.Tie as tie
+use Rattle.basics.proofs.make.reset.Statement.{statement}
+use Rattle.basics.proofs.make.reset.Tie as tie
 
 from-prepared-requires : tie.Need-from-prepared-requires
 from-prepared-requires c κs = search needs

@@ -1,7 +1,7 @@
 // A new engine, and a reset one.
 ghost use mathlib.Core.Path.{_≡_};
 ghost use Rattle.settings.specs.Settings.{lawfulRate};
-ghost use Rattle.engine.specs.New.{newEngineOf, resetOf};
+ghost use Rattle.basics.specs.New.{newEngineOf, resetOf};
 use refusals::Answer;
 use refusals::Refusal;
 use state::Done;
