@@ -23,7 +23,10 @@ clamp32-requires c κs = search needs
 
 returns-2 : tie.Need-returns-2
 unfolding attenuationOf placeOf
-returns-2 c = skipped _ _ _ _ (c .before .before .before .before .before .before .if1 .left) cc
+returns-2 c =
+    let b = c .before .before .before .before in
+    skipped _ _ _ _ (b .before .before .if1 .left)
+    (rw (c .before .clamp32 .ensures, c .before .before .opened .ensures, b .log2 .ensures, b .before .max32 .ensures))
 
 pub attenuation-db-spec : {M : Type 1} → statement M
 attenuation-db-spec =

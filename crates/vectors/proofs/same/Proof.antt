@@ -16,7 +16,7 @@ abbrev μ-loop : tie.MeasureT-loop
 μ-loop a b i₀ i = length a - i
 
 returns : tie.Need-returns Inv-loop μ-loop
-returns c = (λ h. absurd (true≢false (sym h)), λ e. absurd (c .if1 .taken (ap length e)))
+returns c = (λ h. absurd (true≢false (sym h)), λ e. absurd (omega (arith, c .if1 .taken, ap length e)))
 
 loop-holds : tie.Need-loop-holds Inv-loop μ-loop
 loop-holds c = alike-none _ _ (omega (arith, c .if1 .left))
@@ -30,7 +30,7 @@ shared-slice-read-if2-2 c = search needs
 returns-2 : tie.Need-returns-2 Inv-loop μ-loop
 returns-2 c =
     let i = c .before .before .before .before .loop .i in
-    (λ h. absurd (true≢false (sym h)), λ e. absurd (c .if2 .taken (ap (λ l. getD l i 0) e)))
+    (λ h. absurd (true≢false (sym h)), λ e. absurd (omega (arith, c .if2 .taken, ap (λ l. getD l i 0) e)))
 
 add-i : tie.Need-add-i Inv-loop μ-loop
 add-i c = search needs
