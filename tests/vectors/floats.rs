@@ -256,6 +256,23 @@ fn remainders32() -> Vec<(f32, f32)> {
         (1e30, 3e-45),
         (-1e-30, 7.0),
     ]);
+    // The way by the bits: subnormal operands and remainders, and quotients of many digits.
+    let least = f32::from_bits(1);
+    let subnormal = f32::from_bits(0x007f_ffff);
+    for (x, m) in [
+        (f32::MAX, least),
+        (f32::MAX, subnormal),
+        (f32::MAX, f32::MIN_POSITIVE),
+        (f32::MAX, 3.0),
+        (f32::MAX, f32::from_bits(0x7f7f_fffe)),
+        (subnormal, f32::from_bits(3)),
+        (f32::MIN_POSITIVE, subnormal),
+        (f32::from_bits(0x0100_0001), f32::from_bits(0x0080_0001)),
+        (1.0, f32::from_bits(0x3f7f_ffff)),
+        (1e10, 0.1),
+    ] {
+        v.extend([(x, m), (-x, m), (x, -m)]);
+    }
     v
 }
 
@@ -272,6 +289,24 @@ fn remainders64() -> Vec<(f64, f64)> {
         (f64::MAX, 1e9),
         (5e-324, 1e9),
     ]);
+    let least = f64::from_bits(1);
+    let subnormal = f64::from_bits(0x000f_ffff_ffff_ffff);
+    for (x, m) in [
+        (f64::MAX, least),
+        (f64::MAX, subnormal),
+        (f64::MAX, f64::MIN_POSITIVE),
+        (f64::MAX, 3.0),
+        (f64::MAX, f64::from_bits(0x7fef_ffff_ffff_fffe)),
+        (subnormal, f64::from_bits(3)),
+        (f64::MIN_POSITIVE, subnormal),
+        (1.0, f64::from_bits(0x3fef_ffff_ffff_ffff)),
+        (1e300, 1e9),
+        (1e22, 0.1),
+        (2.0, 1.0),
+        (1.9999999999999998, 1.0),
+    ] {
+        v.extend([(x, m), (-x, m), (x, -m)]);
+    }
     v
 }
 

@@ -79,18 +79,30 @@ pub steps-are : (f : Format) (e : ℤ) → down e ≤ 2 ^ low f → up e * 2 ^ l
 steps-are f (pos k) h = sym (pow-add 2 k (low f)) ∙ sym (mul-one (2 ^ (k + low f)))
 steps-are f (negsuc k) h = one-mul (2 ^ low f) ∙ ap (λ (z : ℕ). 2 ^ z) (sym (back (low f) (suc k) (pow-le-back (suc k) (low f) h))) ∙ pow-add 2 (low f - suc k) (suc k)
 
-pub own-round : (f : Format) (s : Bool) (m : ℕ) (e : ℤ) → T (fits f (fin s m e)) → round f s (m * up e) (down e) ≡ fin s m e
-own-round f s m e t =
+-- a value that fits as a count of the smallest values
+pub record OwnCount (f : Format) (m : ℕ) (e : ℤ) : Type 0 where
+  pub is : m * up e * 2 ^ low f ≡ m * 2 ^ steps f e * down e
+  pub under : m * 2 ^ steps f e < 2 ^ (low f + suc (emax f))
+
+pub own-count : (f : Format) (s : Bool) (m : ℕ) (e : ℤ) → T (fits f (fin s m e)) → OwnCount f m e
+own-count f s m e t =
     let g = fine f s m e t in
     let l = 2 ^ low f in
     let q : m * up e * l ≡ m * 2 ^ steps f e * down e = mul-assoc m (up e) l ∙ ap (λ (z : ℕ). m * z) (steps-are f e (g .deep)) ∙ sym (mul-assoc m (2 ^ steps f e) (down e)) in
-    let below : m * 2 ^ steps f e < 2 ^ (low f + suc (emax f)) =
-    lt-of-mul-lt-mul-right (down e)
-    (subst (λ (z : ℕ). z < 2 ^ (low f + suc (emax f)) * down e) q
-    (lt-of-lt-of-le (mul-lt-mul-of-pos-right (g .under) (pow-pos (low f)))
-    (le-of-eq (mul-right-comm (2 ^ suc (emax f)) (down e) l ∙ ap (λ (z : ℕ). z * down e) (mul-comm (2 ^ suc (emax f)) l ∙ sym (pow-add 2 (low f) (suc (emax f)))))))) in
+    record {
+      is = q;
+      under =
+          lt-of-mul-lt-mul-right (down e)
+          (subst (λ (z : ℕ). z < 2 ^ (low f + suc (emax f)) * down e) q
+          (lt-of-lt-of-le (mul-lt-mul-of-pos-right (g .under) (pow-pos (low f)))
+          (le-of-eq (mul-right-comm (2 ^ suc (emax f)) (down e) l ∙ ap (λ (z : ℕ). z * down e) (mul-comm (2 ^ suc (emax f)) l ∙ sym (pow-add 2 (low f) (suc (emax f))))))));
+    }
+
+pub own-round : (f : Format) (s : Bool) (m : ℕ) (e : ℤ) → T (fits f (fin s m e)) → round f s (m * up e) (down e) ≡ fin s m e
+own-round f s m e t =
+    let c = own-count f s m e t in
     unique f (round f s (m * up e) (down e)) (fin s m e) s (m * up e) (down e) (down-pos e) (round-fits f s (m * up e) (down e)) t
-    (round-exact f s (m * up e) (down e) m (steps f e) (down-pos e) (g .few) below q)
+    (round-exact f s (m * up e) (down e) m (steps f e) (down-pos e) (fine f s m e t .few) (c .under) (c .is))
     (refl, refl)
 
 -- ---- a sign goes through `round`

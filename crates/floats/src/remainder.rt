@@ -1,8 +1,11 @@
-// Rust's `%` on floats and its `rem_euclid`. A number from 0 up to below the divisor is its own
-// remainder, found without the call of C's `fmod` that `%` compiles to.
+// Rust's `%` on floats and its `rem_euclid`, with no call of C's `fmod`, which `%` compiles to. A
+// number from 0 up to below the divisor is its own remainder, and up to below its double the
+// difference; any other goes the long way.
 ghost use mathlib.Core.Path.{_≡_};
 ghost use lib.Ieee.{binary32, binary64, rem};
 ghost use Rattle.floats.specs.Remainder.{remEuclid};
+use crate::modulo::divided;
+use crate::modulo::divided32;
 use choices::abs32;
 use choices::abs64;
 use choices::pick32;
@@ -15,8 +18,15 @@ pub fn rem32(x: f32, m: f32) -> f32
         if x < m {
             return x;
         }
+        if 0.0 < m {
+            let rest = x - m;
+            if rest < m {
+                return rest;
+            }
+        }
     }
-    x % m
+    let r = divided32(x, m);
+    if r != r { 0.0 / 0.0 } else { r as f32 }
 }
 
 pub fn rem64(x: f64, m: f64) -> f64
@@ -26,8 +36,14 @@ pub fn rem64(x: f64, m: f64) -> f64
         if m > x {
             return x;
         }
+        if m > 0.0 {
+            let rest = x - m;
+            if m > rest {
+                return rest;
+            }
+        }
     }
-    x % m
+    divided(x, m)
 }
 
 // The remainder brought up where it is negative. A tiny negative one rounds to the divisor itself.
