@@ -33,3 +33,6 @@ pub mod Units
 pub mod Grid
 pub mod Unit
 pub mod Fitting
+pub mod Fractions
+pub mod Between
+pub mod Level

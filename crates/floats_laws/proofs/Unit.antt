@@ -14,6 +14,7 @@ use lib.Ieee.Scale.{finite, round-same}
 use lib.Ieee.Order.{round-mono}
 use borrow.Author.Tests.{le-ltb}
 use Rattle.lists.specs.Pick.{by-case}
+use Rattle.floats_laws.proofs.Between.{sum-from-zero}
 use Rattle.floats_laws.proofs.Bounds.{mul-mag, sub-mag}
 use Rattle.floats_laws.proofs.Gap.{one-number}
 use Rattle.floats_laws.proofs.Mag.{Mag, le-upto, mag-finite, mag-le}
@@ -61,10 +62,6 @@ one-less-one = refl
 one-less-nothing : sub binary32 i nought ≡ i
 unfolding sub add neg Ieee.sum round Ieee.units Ieee.odd Ieee.size Ieee.span Ieee.climb
 one-less-nothing = refl
-
-nothing-and-nothing : add binary32 nought nought ≡ nought
-unfolding add Ieee.sum round Ieee.units Ieee.odd Ieee.size Ieee.span Ieee.climb
-nothing-and-nothing = refl
 
 nothing-less-nothing : sub binary32 nought nought ≡ nought
 unfolding sub add neg Ieee.sum round Ieee.units Ieee.odd Ieee.size Ieee.span Ieee.climb
@@ -231,13 +228,6 @@ module _ (f : Format) where
       same : (a d : ℕ) → a * (1 * d) ≡ (a * 1 - 0 * 1 * d) * d
       same a d = ap (λ (z : ℕ). a * z) (one-mul d) ∙ ap (λ (z : ℕ). z * d) (omega (arith, zero-mul d, mul-one a))
 
-sum-from-zero : (x y : Float) → T (finite x) → T (finite y) → T (le nought x) → T (le nought y) → T (le nought (add binary32 x y))
-unfolding isNan
-sum-from-zero x y u v g h =
-    float-trans binary32 nought (add binary32 x nought) (add binary32 x y) nought-fits (add-fits binary32 x nought) (add-fits binary32 x y)
-    (subst (λ (z : Float). T (le z (add binary32 x nought))) nothing-and-nothing (add-rises binary32 nought x nought g (add-number binary32 nought nought tt tt) (add-number binary32 x nought (finite-number binary32 x u) tt)))
-    (add-rises-right binary32 x nought y h (add-number binary32 x nought (finite-number binary32 x u) tt) (add-number binary32 x y (finite-number binary32 x u) v))
-
 module _ {x s : Float} (u : Unit x) (v : Unit s) where
   abbrev rest : Float
   rest = sub binary32 i x
@@ -256,7 +246,7 @@ module _ {x s : Float} (u : Unit x) (v : Unit s) where
       let p = product-unit r v in
       record {
         held = add-fits binary32 x part;
-        least = sum-from-zero x part (unit-finite u) (unit-finite p) (u .least) (p .least);
+        least = sum-from-zero binary32 x part (unit-finite u) (unit-finite p) (u .least) (p .least);
         most =
             float-trans binary32 (add binary32 x part) (add binary32 x rest) i (add-fits binary32 x part) (add-fits binary32 x rest) i-fits
             (add-rises-right binary32 x part rest part-less (add-number binary32 x part (unit-number u) (unit-finite p)) (add-number binary32 x rest (unit-number u) (unit-finite r)))

@@ -37,7 +37,7 @@ run-is e [] = refl
 run-is e (c ∷ cs) =
     perform-append e (actsOf e c) (history (applied e c) cs) ∙ ap (λ (x : Engine). perform x (history (applied e c) cs)) (calls-are-acts e c) ∙ run-is (applied e c) cs
 
-history-meant : (e : Engine) (cs : List Call) → AllTyped cs → Sound e → AllMeant e (history e cs)
+pub history-meant : (e : Engine) (cs : List Call) → AllTyped cs → Sound e → AllMeant e (history e cs)
 unfolding history
 history-meant e [] t s = tt
 history-meant e (c ∷ cs) t s =
@@ -45,7 +45,7 @@ history-meant e (c ∷ cs) t s =
     let n = history-meant (applied e c) cs (t .1) (subst Sound (calls-are-acts e c) (sound-performed e (actsOf e c) m s)) in
     meant-append e (actsOf e c) (history (applied e c) cs) m (subst (λ (x : Engine). AllMeant x (history (applied e c) cs)) (sym (calls-are-acts e c)) n)
 
-sound-run : (e : Engine) (cs : List Call) → AllTyped cs → Sound e → Sound (run e cs)
+pub sound-run : (e : Engine) (cs : List Call) → AllTyped cs → Sound e → Sound (run e cs)
 sound-run e cs t s = subst Sound (run-is e cs) (sound-performed e (history e cs) (history-meant e cs t s) s)
 
 -- ---- where they begin
@@ -71,7 +71,7 @@ begins-sound e (reset e′ cs b t) = (sound-reset (run e′ cs) (sound-run e′ 
 held-fit : (e : Engine) → Sound e → (i : ℕ) → Held e i → Fit (e .clock .sample) (place e i)
 held-fit e s i h =
     by-case (ltb i (length (e .particles)))
-    (λ l. every-at (sound.Held (e .clock .sample)) (e .particles) i freeParticle (ltb-true _ _ l) (s .held) h)
+    (λ l. every-at (sound.Held (e .clock .sample)) (e .particles) i freeParticle (ltb-true _ _ l) (s .held) .0 h)
     (λ l. absurd (true≢false (sym h ∙ ap (λ p. p .active) (List·getD-eq-default (e .particles) freeParticle (ltb-false _ _ l)) ∙ repeated 0 i)))
 
 plain : (since now : ℕ) → since ≤ now → now ≤ 2 ^ 40 → elapsedOf since now ≡ now - since

@@ -4,3 +4,4 @@ pub mod Lives
 pub mod Marked
 pub mod Quiet
 pub mod Stories
+pub mod EveryRun

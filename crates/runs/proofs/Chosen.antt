@@ -1,13 +1,15 @@
 -- A birth leaves an engine as sound as it was: the chosen slot is one of 256 or none, the newborn is fit, and 64 attempts are not passed.
-use Prim.Native.Nat.{ℕ, suc, _+_, _-_, _≤_}
+use Prim.Native.Nat.{ℕ, suc, _+_, _-_, _^_, _≤_, _<_}
+use native.Mathlib.Nat.{le-trans, le-of-eq, mod-lt}
 use native.Mathlib.Omega.{arith}
-use mathlib.Core.Path.{_≡_, sym, _∙_, subst}
+use mathlib.Core.Path.{_≡_, refl, sym, _∙_, subst}
 use mathlib.Core.Logic.{_⊎_, inl, inr}
 use mathlib.Core.Bool.{Bool, true, false, true≢false}
 use mathlib.Core.List.{List, [], _∷_}
 use borrow.Author.Tests.{ltb-true, eqb-false}
 use lib.Dec.{ltb, eqb}
 use lib.ListN.{length, getD, set, length-set}
+use lib.Pow.{pow-pos}
 use lib.Ieee.{Float}
 use Rattle.lists.specs.Pick.{pick, either}
 use Rattle.pool.specs.declared.Particle.{Particle}
@@ -18,10 +20,12 @@ use Rattle.state.specs.declared.Engine.{Engine}
 use Rattle.state.specs.declared.Next.{Next}
 use Rattle.state.specs.declared.Tally.{Tally}
 use Rattle.state.specs.State.{grown, withNext, withParticles, withTally, pastSource}
-use Rattle.tallies.specs.Tallies.{bornOne}
+use Rattle.draws.proofs.Unit.{mix-lt}
+use Rattle.births.specs.Births.{newbornOf}
+use Rattle.tallies.specs.Tallies.{droppedOne, hashOf, bornOne}
 use Rattle.bearing.specs.Birth.{chosenFor, withLast, triedOne, newbornFor, admittedOf, attemptedOf, bornOf}
 use Rattle.lists.specs.Every.{Every, every-set, in-case}
-use Rattle.runs.proofs.Sound.{Sound, Held, Sounding, engine-newborn}
+use Rattle.runs.proofs.Sound.{Sound, Held, Counted, Sounding, engine-newborn}
 
 -- ---- the slot
 nth-most : (last i : ℕ) (ss : List Source) (n : ℕ) → nthFrom last i ss n ≤ i + length ss
@@ -77,8 +81,8 @@ slot-sounding e index own s h =
     (either (Sounding (e .sources)) _ _ _ (sounding _ (e .sources) (s .slots) (found 256 0 (e .sources) 0)) (sounding _ (e .sources) (s .slots) (found (e .next .«last_source») 0 (e .sources) _)))
 
 -- ---- the counters and the choice
-pub sound-next : (e : Engine) (n : Next) → Sound e → n .«last_source» ≤ 256 → Sound (withNext e n)
-sound-next e n s h =
+pub sound-next : (e : Engine) (n : Next) → Sound e → n .«last_source» ≤ 256 → n .«immediate_index» < 2 ^ 64 → Sound (withNext e n)
+sound-next e n s h i =
     record {
       made = s .made;
       settled = s .settled;
@@ -90,10 +94,13 @@ sound-next e n s h =
       formed = s .formed;
       active = s .active;
       held = s .held;
+      lanes = s .lanes;
+      reserved = i;
+      counted = s .counted;
     }
 
-pub sound-tally : (e : Engine) (t : Tally) → Sound e → t .attempts ≤ 64 → Sound (withTally e t)
-sound-tally e t s h =
+pub sound-tally : (e : Engine) (t : Tally) → Sound e → t .attempts ≤ 64 → Counted t → Sound (withTally e t)
+sound-tally e t s h c =
     record {
       made = s .made;
       settled = s .settled;
@@ -105,6 +112,9 @@ sound-tally e t s h =
       formed = s .formed;
       active = s .active;
       held = s .held;
+      lanes = s .lanes;
+      reserved = s .reserved;
+      counted = c;
     }
 
 pub sound-particles : (e : Engine) (ps : List Particle) → Sound e → length ps ≡ 64 → Every (Held (e .clock .sample)) ps → Sound (withParticles e ps)
@@ -120,18 +130,44 @@ sound-particles e ps s l h =
       formed = s .formed;
       active = s .active;
       held = h;
+      lanes = s .lanes;
+      reserved = s .reserved;
+      counted = s .counted;
     }
 
+-- ---- the counters
+pub grown-word : (n : ℕ) → grown n < 2 ^ 64
+grown-word n = mod-lt (n + 1) (pow-pos 64)
+
+counted-dropped : (t : Tally) → Counted t → Counted (droppedOne t)
+counted-dropped t c = record { births = c .births; dropped = grown-word (t .dropped); hash = c .hash }
+
+counted-tried : (t : Tally) → Counted t → Counted (triedOne t)
+counted-tried t c = record { births = c .births; dropped = c .dropped; hash = c .hash }
+
+counted-born : (t : Tally) (index sample : ℕ) (p : Particle) → Counted t → Counted (bornOne t index sample p)
+unfolding bornOne hashOf
+counted-born t index sample p c = record { births = grown-word (t .births); dropped = c .dropped; hash = mix-lt _ }
+
+born-attempts : (t : Tally) (index sample : ℕ) (p : Particle) → bornOne t index sample p .attempts ≡ t .attempts
+unfolding bornOne
+born-attempts t index sample p = refl
+
 -- ---- the birth
+newborn-held : (e : Engine) (index slot : ℕ) → Sound e → slot ≤ 256 → Sounding (e .sources) slot → Held (e .clock .sample) (newbornFor e index slot)
+unfolding newbornFor newbornOf
+newborn-held e index slot s h o = (λ a. engine-newborn e index slot s h o, λ a. absurd (true≢false a))
+
 sound-admitted : (e : Engine) (index slot : ℕ) → Sound e → slot ≤ 256 → Sounding (e .sources) slot → Sound (admittedOf e index slot)
-unfolding admittedOf bornOne
+unfolding admittedOf
 sound-admitted e index slot s h o =
+    let p = newbornFor e index slot in
     either Sound _ _ _
-    (sound-tally (withParticles e (set (e .particles) _ (newbornFor e index slot))) _
-    (sound-particles e (set (e .particles) _ (newbornFor e index slot)) s (length-set (e .particles) _ _ ∙ s .places)
-    (every-set (Held (e .clock .sample)) (e .particles) _ (newbornFor e index slot) (λ a. engine-newborn e index slot s h o) (s .held)))
-    (s .tried))
-    (sound-tally e _ s (s .tried))
+    (sound-tally (withParticles e (set (e .particles) _ p)) (bornOne (e .tally) index (e .clock .sample) p)
+    (sound-particles e (set (e .particles) _ p) s (length-set (e .particles) _ _ ∙ s .places)
+    (every-set (Held (e .clock .sample)) (e .particles) _ p (newborn-held e index slot s h o) (s .held)))
+    (le-trans (le-of-eq (born-attempts (e .tally) index (e .clock .sample) p)) (s .tried)) (counted-born (e .tally) index (e .clock .sample) p (s .counted)))
+    (sound-tally e _ s (s .tried) (counted-dropped (e .tally) (s .counted)))
 
 one-more : (n : ℕ) → n ≤ 64 → (n ≡ 64 → ⊥) → grown n ≤ 64
 one-more n h d = omega arith
@@ -139,14 +175,14 @@ one-more n h d = omega arith
 sound-attempted : (e : Engine) (index slot : ℕ) → Sound e → slot ≤ 256 → Sounding (e .sources) slot → Sound (attemptedOf e index slot)
 unfolding attemptedOf
 sound-attempted e index slot s h o =
-    in-case Sound (eqb (e .tally .attempts) 64) _ _ (λ q. sound-tally e _ s (s .tried))
+    in-case Sound (eqb (e .tally .attempts) 64) _ _ (λ q. sound-tally e _ s (s .tried) (counted-dropped (e .tally) (s .counted)))
     (λ q.
-    let t = sound-tally e (triedOne (e .tally)) s (one-more (e .tally .attempts) (s .tried) (eqb-false (e .tally .attempts) 64 q)) in
+    let t = sound-tally e (triedOne (e .tally)) s (one-more (e .tally .attempts) (s .tried) (eqb-false (e .tally .attempts) 64 q)) (counted-tried (e .tally) (s .counted)) in
     either Sound _ _ _ t (sound-admitted (withTally e (triedOne (e .tally))) index slot t h o))
 
 pub sound-born : (e : Engine) (index own : ℕ) → Sound e → Sounding (e .sources) own → Sound (bornOf e index own)
 unfolding bornOf
 sound-born e index own s o =
     let h = slot-most e index own s in
-    sound-attempted (withNext e (withLast (e .next) (chosenFor e index own))) index (chosenFor e index own) (sound-next e (withLast (e .next) (chosenFor e index own)) s h) h
+    sound-attempted (withNext e (withLast (e .next) (chosenFor e index own))) index (chosenFor e index own) (sound-next e (withLast (e .next) (chosenFor e index own)) s h (s .reserved)) h
     (slot-sounding e index own s o)

@@ -1,8 +1,8 @@
 -- A frame keeps an engine sound; and of a sound engine each window is empty, or has a finite centre, a radius above 0 (finite where the bin is) and an amplitude from 0 to 1, and the activity lies from 0 to 1.
 use Prim.Native.Nat.{ℕ, _+_, _*_, _<_, zero-le}
-use mathlib.Core.Path.{_≡_, sym, ap, _∙_, subst}
+use mathlib.Core.Path.{_≡_, refl, sym, ap, _∙_, subst}
 use mathlib.Core.Logic.{_⊎_, inl}
-use mathlib.Core.Bool.{Bool, true, false, true≢false}
+use mathlib.Core.Bool.{Bool, true, true≢false}
 use lib.Dec.{T}
 use lib.ListN.{length, getD, length-map}
 use lib.Ieee.{Float, binary32, fits, ofBits}
@@ -32,9 +32,9 @@ use Rattle.lists.specs.Every.{Every, every-map, every-at, in-case}
 use Rattle.runs.proofs.Sound.{Held, Sound}
 
 -- ---- what is left is held
-free-held : (now : ℕ) → Held now freeParticle
+pub free-held : (now : ℕ) → Held now freeParticle
 unfolding freeParticle
-free-held now a = absurd (true≢false (sym a))
+free-held now = (λ a. absurd (true≢false (sym a)), λ a. refl)
 
 held-swept : (now : ℕ) (rate : Float) (p : Particle) → Held now p → Held now (sweepOne now rate p)
 unfolding sweepOne
@@ -64,6 +64,9 @@ sound-renewed e activity u s =
       formed = s .formed;
       active = u;
       held = all-held e s;
+      lanes = s .lanes;
+      reserved = s .reserved;
+      counted = record { births = s .counted .births; dropped = s .counted .dropped; hash = s .counted .hash };
     }
 
 pub yes : (b : Bool) → b ≡ true → T b
@@ -108,7 +111,7 @@ module _ (e : Engine) (s : Sound e) (binHz : Float) where
   one : (p : Particle) → Held (e .clock .sample) p → (w : ℕ) → EmptyOrGood binHz (windowOf (e .prepared .«partial_logs») binHz (maxHzOf rate) (show p) (getD (show p .partials) w 0))
   one p h w =
       by-case (p .active)
-      (λ a. window-good (e .prepared .«partial_logs») logs binHz (maxHzOf rate) rate (lawful-rated rate (s .made .single) (s .made .lawful)) (e .clock .sample) p a (h a .fair) (getD (show p .partials) w 0))
+      (λ a. window-good (e .prepared .«partial_logs») logs binHz (maxHzOf rate) rate (lawful-rated rate (s .made .single) (s .made .lawful)) (e .clock .sample) p a (h .0 a .fair) (getD (show p .partials) w 0))
       (λ a. inl (free-shows-none (e .prepared .«partial_logs») binHz (maxHzOf rate) (e .clock .sample) rate p w a))
 
   -- the window of partial w of place p

@@ -2,10 +2,12 @@
 use Prim.Native.Nat.{ℕ, _≤_}
 use native.Mathlib.Nat.{le-refl}
 use mathlib.Core.Path.{_≡_, refl, sym, ap, _∙_, subst}
+use mathlib.Core.Bool.{true, true≢false}
 use lib.Dec.{T}
 use lib.Ieee.{Float, binary32, fits, lt}
 use lib.Ieee.Scale.{finite}
 use Rattle.lists.specs.Pick.{either}
+use Rattle.lists.specs.Every.{in-case}
 use Rattle.floats_laws.proofs.Rising.{nought}
 use Rattle.pool.specs.declared.Particle.{Particle}
 use Rattle.pool.specs.declared.Retired.{Retired}
@@ -88,30 +90,46 @@ fit-retired now p f =
       slot = le-refl 256;
       harmonics = f .harmonics;
       fair = fair-retired now p (f .fair);
+      octave = f .octave;
+      octave-fits = f .octave-fits;
+      lifetime-fits = f .lifetime-fits;
+      power = f .power;
     }
 
-retired-active : (now : ℕ) (p : Particle) → retiredOf now p .active ≡ p .active
-unfolding retiredOf
-retired-active now p = refl
-
 -- what is retired was held
-held-retired : (now : ℕ) (p : Particle) → Held now p → Held now (retiredOf now p)
-held-retired now p f a = fit-retired now p (f (sym (retired-active now p) ∙ a))
+held-retired : (now : ℕ) (p : Particle) → p .active ≡ true → Held now p → Held now (retiredOf now p)
+unfolding retiredOf
+held-retired now p q f = (λ a. fit-retired now p (f .0 q), λ a. absurd (true≢false (sym q ∙ a)))
 
 pub held-retire-one : (now : ℕ) (p : Particle) → Held now p → Held now (retireOne now p)
 unfolding retireOne
-held-retire-one now p f = either (Held now) _ _ _ (held-retired now p f) f
+held-retire-one now p f = in-case (Held now) (p .active) _ _ (λ q. held-retired now p q f) (λ q. f)
 
 pub held-retire-bound : (slot now : ℕ) (p : Particle) → Held now p → Held now (retireBoundOne slot now p)
 unfolding retireBoundOne
-held-retire-bound slot now p f = either (Held now) _ _ _ (either (Held now) _ _ _ (held-retired now p f) f) f
+held-retire-bound slot now p f = in-case (Held now) (p .active) _ _ (λ q. either (Held now) _ _ _ (held-retired now p q f) f) (λ q. f)
 
-held-retuned : (now : ℕ) (hz : Float) (p : Particle) → T (fits binary32 hz) → T (lt nought hz) × T (finite hz) → Held now p → Held now (retunedOf hz p)
+fit-retuned : (now : ℕ) (hz : Float) (p : Particle) → T (fits binary32 hz) → T (lt nought hz) × T (finite hz) → Fit now p → Fit now (retunedOf hz p)
 unfolding retunedOf
-held-retuned now hz p h k f a =
-    let s = f a in
-    record { born = s .born; retired = s .retired; above = s .above; most = s .most; slot = s .slot; harmonics = s .harmonics; fair = fair-retuned hz p h k (s .fair) }
+fit-retuned now hz p h k s =
+    record {
+      born = s .born;
+      retired = s .retired;
+      above = s .above;
+      most = s .most;
+      slot = s .slot;
+      harmonics = s .harmonics;
+      fair = fair-retuned hz p h k (s .fair);
+      octave = s .octave;
+      octave-fits = s .octave-fits;
+      lifetime-fits = s .lifetime-fits;
+      power = s .power;
+    }
+
+held-retuned : (now : ℕ) (hz : Float) (p : Particle) → p .active ≡ true → T (fits binary32 hz) → T (lt nought hz) × T (finite hz) → Held now p → Held now (retunedOf hz p)
+unfolding retunedOf
+held-retuned now hz p q h k f = (λ a. fit-retuned now hz p h k (f .0 q), λ a. absurd (true≢false (sym q ∙ a)))
 
 pub held-retune-one : (slot now : ℕ) (hz : Float) → T (fits binary32 hz) → T (lt nought hz) × T (finite hz) → (p : Particle) → Held now p → Held now (retuneOne slot hz p)
 unfolding retuneOne
-held-retune-one slot now hz h k p f = either (Held now) _ _ _ (either (Held now) _ _ _ (held-retuned now hz p h k f) f) f
+held-retune-one slot now hz h k p f = in-case (Held now) (p .active) _ _ (λ q. either (Held now) _ _ _ (held-retuned now hz p q h k f) f) (λ q. f)

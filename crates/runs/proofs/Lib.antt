@@ -3,9 +3,15 @@ pub mod Chosen
 pub mod Frames
 pub mod Joins
 pub mod Kept
+pub mod Lawful
 pub mod Moments
+pub mod Newborns
 pub mod Performed
+pub mod Ranged
+pub mod RangedMoments
+pub mod Rolloffs
 pub mod Sound
 pub mod Stays
 pub mod Steps
 pub mod Voices
+pub mod Weighed

@@ -1,12 +1,14 @@
 -- An engine is sound at every moment of a run: after each act of a call, between two births of one sample too.
-use Prim.Native.Nat.{ℕ, zero, suc, _+_, _^_, _≤_}
+use Prim.Native.Nat.{ℕ, zero, suc, _+_, _^_, _≤_, _<_}
 use native.Mathlib.Nat.{le-refl}
 use native.Mathlib.Omega.{arith}
-use mathlib.Core.Path.{_≡_, refl, sym, subst}
+use mathlib.Core.Path.{_≡_, refl, sym, _∙_, subst}
 use mathlib.Core.Bool.{true}
 use mathlib.Core.List.{List, [], _∷_, _++_}
 use borrow.Author.Tests.{ltb-false, leb-true}
 use lib.Dec.{T, ltb, leb}
+use lib.Pow.{pow-pos}
+use lib.ListN.{length, length-set}
 use lib.Ieee.{Float, binary32, fits, lt}
 use lib.Ieee.Scale.{finite}
 use Rattle.lists.specs.Pick.{either}
@@ -19,7 +21,6 @@ use Rattle.settings.specs.declared.Shape.{Shape}
 use Rattle.settings.specs.declared.Shape.the-variants.{Sprinkle, Cloud}
 use Rattle.settings.specs.Settings.{maxHop, checkedOf}
 use Rattle.mending.specs.Mending.{mendedOf}
-use Rattle.settings_laws.proofs.Lifetimes as lifetimes
 use Rattle.sources.specs.Sources.{isPitched}
 use Rattle.state.specs.declared.Engine.{Engine}
 use Rattle.state.specs.State.{withConfig, pastSource}
@@ -28,16 +29,16 @@ use Rattle.changes.specs.Changes.{retiredAll, reweighed, switched, offset}
 use Rattle.triggers.specs.Triggers.{isPermitted, reservedOf}
 use Rattle.frame.specs.Frame.{accepted}
 use Rattle.frame_laws.proofs.Background.{activity-unit}
-use Rattle.runs.specs.Acts.{Act, birth, retire, retireBound, retune, frame, source, streams, next, clock, weights, settings, act, perform, triedActs, laneActs, shapeActs, deliverActs, sampleActs, advanceActs, restartActs, weighActs, switchActs, offsetActs, configureActs, checkedActs, triggerActs, Call, configure, noteInput, setSource, retireSource, releaseSource, trigger, reserve, reserved, seek, advance, takeFrame, Typed, actsOf}
+use Rattle.runs.specs.Acts.{Act, birth, retire, retireBound, retune, frame, source, streams, next, clock, weights, settings, act, perform, triedActs, laneActs, shapeActs, deliverActs, sampleActs, advanceActs, restartActs, weighActs, switchActs, offsetActs, configureActs, checkedActs, triggerActs, Call, configure, noteInput, setSource, retireSource, releaseSource, trigger, reserve, reserved, seek, advance, takeFrame, Singles, Typed, actsOf}
 use Rattle.lists.specs.Every.{every-getD, in-case}
 use Rattle.runs.proofs.Births.{delivered-keeps}
 use Rattle.runs.proofs.Joins.{steps-count, grown-small}
 use Rattle.runs.proofs.Sound.{Sound, Settled, Sounding, past-formed}
 use Rattle.runs.proofs.Kept.{held-retire-bound, held-retune-one}
 use Rattle.runs.proofs.Voices.{Formed, pitched-sounds}
-use Rattle.runs.proofs.Chosen.{none-sounding, sound-next, sound-born}
+use Rattle.runs.proofs.Chosen.{grown-word, none-sounding, sound-next, sound-born}
 use Rattle.runs.proofs.Steps.{sound-streams, sound-clock}
-use Rattle.runs.proofs.Stays.{sound-config, sound-weights, sound-source, sound-mapped, sound-retired, no-source-formed, permitted-sounding}
+use Rattle.runs.proofs.Stays.{sound-config, sound-weights, sound-source, sound-mapped, sound-retired, no-source-formed, three-aligned, three-prepared, permitted-sounding}
 use Rattle.runs.proofs.Frames.{sound-renewed, yes}
 use Rattle.runs.proofs.Performed.{tried, lane-done, deliver-done, weigh-done, switch-done, offset-done, advance-done}
 
@@ -49,8 +50,8 @@ Meant e (retireBound slot) = Unit {0}
 Meant e (retune slot hz) = T (fits binary32 hz) × (T (lt nought hz) × T (finite hz))
 Meant e (frame seconds) = T (fits binary32 seconds) × (accepted seconds ≡ true)
 Meant e (source slot s) = Formed s
-Meant e (streams ss) = Unit {0}
-Meant e (next n) = n .«last_source» ≤ 256
+Meant e (streams ss) = length ss ≡ 3
+Meant e (next n) = (n .«last_source» ≤ 256) × (n .«immediate_index» < 2 ^ 64)
 Meant e (clock k) = (e .clock .sample ≤ k .sample) × (k .sample ≤ 2 ^ 40)
 Meant e (weights ws) = Unit {0}
 Meant e (settings c) = Settled c
@@ -63,8 +64,8 @@ sound-act e (retireBound slot) m s = sound-mapped e (retireBoundOne slot (e .clo
 sound-act e (retune slot hz) m s = sound-mapped e (retuneOne slot hz) s (held-retune-one slot (e .clock .sample) hz (m .0) (m .1))
 sound-act e (frame seconds) m s = sound-renewed e _ (activity-unit (e .activity) (e .config .enabled) seconds (m .0) (yes (accepted seconds) (m .1)) (s .active)) s
 sound-act e (source slot x) m s = sound-source e slot x m s
-sound-act e (streams ss) m s = sound-streams e ss s
-sound-act e (next n) m s = sound-next e n s m
+sound-act e (streams ss) m s = sound-streams e ss m s
+sound-act e (next n) m s = sound-next e n s (m .0) (m .1)
 sound-act e (clock k) m s = sound-clock e k s (m .0) (m .1)
 sound-act e (weights ws) m s = sound-weights e ws s
 sound-act e (settings c) m s = sound-config e c s m
@@ -88,21 +89,26 @@ pub meant-before : (e : Engine) (xs ys : List Act) → AllMeant e (xs ++ ys) →
 meant-before e [] ys m = tt
 meant-before e (x ∷ xs) ys m = (m .0, meant-before (act e x) xs ys (m .1))
 
+pub meant-after : (e : Engine) (xs ys : List Act) → AllMeant e (xs ++ ys) → AllMeant (perform e xs) ys
+unfolding perform
+meant-after e [] ys m = m
+meant-after e (x ∷ xs) ys m = meant-after (act e x) xs ys (m .1)
+
 -- one part, then another from where the first leads
 then : (e e′ : Engine) (xs ys : List Act) → perform e xs ≡ e′ → Sound e → AllMeant e xs → (Sound e′ → AllMeant e′ ys) → AllMeant e (xs ++ ys)
 then e e′ xs ys q s m n =
     meant-append e xs ys m (subst (λ (x : Engine). AllMeant x ys) (sym q) (n (subst Sound q (sound-performed e xs m s))))
 
 -- ---- a sample
-tried-meant : (e : Engine) (lane : ℕ) (reference : Float) → AllMeant e (triedActs e lane reference)
+tried-meant : (e : Engine) (lane : ℕ) (reference : Float) → Sound e → AllMeant e (triedActs e lane reference)
 unfolding triedActs act
-tried-meant e lane reference =
-    either (AllMeant e) _ _ _ tt (tt, either (AllMeant _) _ _ _ (either (AllMeant _) _ _ _ (none-sounding (e .sources), tt) tt) tt)
+tried-meant e lane reference s =
+    either (AllMeant e) _ _ _ tt (length-set (e .streams) lane _ ∙ s .lanes, either (AllMeant _) _ _ _ (either (AllMeant _) _ _ _ (none-sounding (e .sources), tt) tt) tt)
 
 lane-meant : (e : Engine) (lane : ℕ) (reference : Float) → Sound e → AllMeant e (laneActs e lane reference)
 unfolding laneActs
 lane-meant e lane reference s =
-    then e (triedOf e lane reference) (triedActs e lane reference) _ (tried e lane reference) s (tried-meant e lane reference) (λ t. tried-meant (triedOf e lane reference) lane reference)
+    then e (triedOf e lane reference) (triedActs e lane reference) _ (tried e lane reference) s (tried-meant e lane reference s) (λ t. tried-meant (triedOf e lane reference) lane reference t)
 
 shape-meant : (shape : Shape) (e : Engine) (reference : Float) → Sound e → AllMeant e (shapeActs shape e reference)
 unfolding shapeActs act
@@ -110,7 +116,7 @@ shape-meant Sprinkle e reference s =
     let one = laneOf e 0 reference in
     then e one (laneActs e 0 reference) _ (lane-done e 0 reference) s (lane-meant e 0 reference s)
     (λ t. then one (laneOf one 1 reference) (laneActs one 1 reference) _ (lane-done one 1 reference) t (lane-meant one 1 reference t) (λ u. lane-meant (laneOf one 1 reference) 2 reference u))
-shape-meant Cloud e reference s = either (AllMeant e) _ _ _ (s .last, either (AllMeant _) _ _ _ (none-sounding (e .sources), tt) tt) tt
+shape-meant Cloud e reference s = either (AllMeant e) _ _ _ ((s .last, s .reserved), either (AllMeant _) _ _ _ (none-sounding (e .sources), tt) tt) tt
 
 deliver-meant : (e : Engine) → Sound e → AllMeant e (deliverActs e)
 unfolding deliverActs
@@ -133,7 +139,7 @@ advance-meant (suc n) e s h =
 -- ---- configure
 restart-meant : (e : Engine) (old : Config) → AllMeant e (restartActs e old)
 unfolding restartActs
-restart-meant e old = either (AllMeant e) _ _ _ (tt, tt) (either (AllMeant e) _ _ _ tt (tt, tt))
+restart-meant e old = either (AllMeant e) _ _ _ (three-aligned _ (e .config .sync), tt) (either (AllMeant e) _ _ _ tt (three-prepared (e .streams) (e .config .sync), tt))
 
 configure-meant : (e : Engine) (c : Config) → Settled c → Sound e → AllMeant e (configureActs e c)
 unfolding configureActs weighActs switchActs offsetActs act
@@ -148,11 +154,11 @@ configure-meant e c h s =
     then kind moved (offsetActs kind (c .phase)) _ (offset-done kind (c .phase)) u (either (AllMeant kind) _ _ _ ((le-refl _, u .time), tt) tt)
     (λ v. (h, restart-meant (withConfig moved c) (e .config)))))
 
-checked-meant : (e : Engine) (c : Config) → lifetimes.Formed c → Sound e → AllMeant e (checkedActs (checkedOf c) e c)
+checked-meant : (e : Engine) (c : Config) → Singles c → Sound e → AllMeant e (checkedActs (checkedOf c) e c)
 unfolding checkedOf
-checked-meant e c f s =
+checked-meant e c g s =
     in-case (λ (a : Answer). AllMeant e (checkedActs a e c)) (ltb maxHop (c .«hop_samples»)) _ _ (λ q. tt)
-    (λ q. configure-meant e (mendedOf c) (record { asked = c; formed = f; hop = ltb-false _ _ q; is = refl }) s)
+    (λ q. configure-meant e (mendedOf c) (record { asked = c; singles = g; hop = ltb-false _ _ q; is = refl }) s)
 
 -- ---- triggers
 trigger-meant : (e : Engine) (slot index : ℕ) → AllMeant e (triggerActs e slot index)
@@ -163,8 +169,8 @@ trigger-meant e slot index =
 -- ---- every call
 pub calls-meant : (e : Engine) (c : Call) → Typed c → Sound e → AllMeant e (actsOf e c)
 unfolding actsOf act retiredAll reservedOf
-calls-meant e (configure c) f s = checked-meant e c (record { rate = f .0; size = f .1 }) s
-calls-meant e (noteInput present) f s = (s .last, tt)
+calls-meant e (configure c) f s = checked-meant e c f s
+calls-meant e (noteInput present) f s = ((s .last, s .reserved), tt)
 calls-meant e (setSource slot x) f s =
     either (AllMeant e) _ _ _
     (either (AllMeant e) _ _ _ tt (record { hz = f .0; strength = f .1 }, in-case (AllMeant _) (isPitched (x .«frequency_hz»)) _ _ (λ q. ((f .0, pitched-sounds (x .«frequency_hz») q), tt)) (λ q. tt))) tt
@@ -172,9 +178,9 @@ calls-meant e (retireSource slot) f s = either (AllMeant e) _ _ _ (no-source-for
 calls-meant e (releaseSource slot) f s =
     let old = every-getD Formed (e .sources) slot pastSource past-formed (s .formed) in
     either (AllMeant e) _ _ _ (record { hz = old .hz; strength = old .strength }, tt) tt
-calls-meant e (trigger slot) f s = (s .last, trigger-meant (reservedOf e .engine) slot (e .next .«immediate_index»))
-calls-meant e reserve f s = (s .last, tt)
+calls-meant e (trigger slot) f s = ((s .last, grown-word _), trigger-meant (reservedOf e .engine) slot (e .next .«immediate_index»))
+calls-meant e reserve f s = ((s .last, grown-word _), tt)
 calls-meant e (reserved slot index) f s = trigger-meant e slot index
-calls-meant e (seek cycles) f s = (tt, ((le-refl _, s .time), (le-refl 256, (tt, tt))))
+calls-meant e (seek cycles) f s = (tt, ((le-refl _, s .time), ((le-refl 256, pow-pos 64), (three-aligned _ (e .config .sync), tt))))
 calls-meant e (advance n) f s = in-case (AllMeant e) (leb (e .clock .sample + n) (2 ^ 40)) _ _ (λ q. advance-meant n e s (leb-true _ _ q)) (λ q. tt)
 calls-meant e (takeFrame binHz seconds) f s = in-case (AllMeant e) (accepted seconds) _ _ (λ q. ((f, q), tt)) (λ q. tt)

@@ -7,16 +7,19 @@ use mathlib.Core.List.{List, [], _∷_}
 use borrow.Author.Tests.{ltb-true, ltb-false}
 use lib.Dec.{T, ltb, lit≤}
 use lib.ListN.{length, getD}
-use lib.Ieee.{Float, binary32, fits, lt, le}
+use lib.Ieee.{Float, binary32, binary64, fits, lt, le}
+use lib.Ieee.Fits.{fits-widens}
 use Rattle.lists.specs.Pick.{either, by-case}
 use Rattle.floats_laws.proofs.Rising.{nought}
 use Rattle.voices.specs.declared.Voice.{Voice}
-use Rattle.voices.specs.Voices.{rate32, freeVoiceOf, sourceVoiceOf}
+use Rattle.voices.specs.Voices.{rate32, maxHzOf, freeVoiceOf, sourceVoiceOf}
 use Rattle.births.specs.Births.{partialsBy, newbornOf}
 use Rattle.pitch_laws.proofs.Harmonics.{Picks, picks-lawful}
+use Rattle.pitch_laws.proofs.Octaves.{WholeUpto}
 use Rattle.pool.specs.declared.Particle.{Particle}
 use Rattle.pool.specs.declared.Retired.{Retired}
 use Rattle.pool.specs.declared.Retired.the-variants.{Not, At}
+use Rattle.pool.specs.Pool.{freeParticle}
 use Rattle.settings.specs.declared.Config.{Config}
 use Rattle.settings.specs.declared.Shape.{Shape}
 use Rattle.settings.specs.declared.Shape.the-variants.{Sprinkle, Cloud}
@@ -33,10 +36,13 @@ use Rattle.floats_laws.proofs.Unit.{Unit}
 use Rattle.state.specs.declared.Engine.{Engine}
 use Rattle.state.specs.State.{pastSource}
 use Rattle.state.specs.declared.Prepared.{Prepared}
+use Rattle.state.specs.declared.Tally.{Tally}
 use Rattle.bearing.specs.Birth.{voiceFor, newbornFor}
 use Rattle.state.specs.Make.{preparedOf}
 use Rattle.lists.specs.Every.{Every, every-getD, in-case}
 use Rattle.floats_laws.proofs.Fitting.{own-convert}
+use Rattle.runs.specs.Acts.{Singles}
+use Rattle.runs.proofs.Newborns.{Power, shape-power, top-fits, shape-octave, octave-fits, lifetime-fits}
 use Rattle.runs.proofs.Voices.{Formed, source-voiced, free-voiced}
 
 -- ---- the terms
@@ -54,14 +60,23 @@ pub record Fit (now : ℕ) (p : Particle) : Type 0 where
   pub slot : p .source ≤ 256
   pub harmonics : Harmonics (p .partials)
   pub fair : Fair p
+  pub octave : WholeUpto 256 (p .octave)
+  pub octave-fits : T (fits binary32 (p .octave))
+  pub lifetime-fits : T (fits binary64 (p .lifetime))
+  pub power : Power (p .«decay_power»)
 
+-- of a place: who holds it is fit, and a free one is empty
 abbrev pub Held : ℕ → Particle → Type 0
-Held now p = p .active ≡ true → Fit now p
+Held now p = (p .active ≡ true → Fit now p) × (p .active ≡ false → p ≡ freeParticle)
+
+-- what the law of lifetimes asks of settings
+both-formed : (c : Config) → Singles c → lifetimes.Formed c
+both-formed c s = record { rate = s .rate; size = s .size }
 
 -- settings that `configure` has mended, with a lawful hop
 pub record Settled (c : Config) : Type 0 where
   pub asked : Config
-  pub formed : lifetimes.Formed asked
+  pub singles : Singles asked
   pub hop : asked .«hop_samples» ≤ maxHop
   pub is : c ≡ mendedOf asked
 
@@ -70,6 +85,12 @@ pub record Made (p : Prepared) : Type 0 where
   pub single : T (fits binary32 (p .«sample_rate»))
   pub lawful : T (lawfulRate (p .«sample_rate»))
   pub is : p ≡ preparedOf (p .«sample_rate»)
+
+-- the counters of births are words
+pub record Counted (t : Tally) : Type 0 where
+  pub births : t .births < 2 ^ 64
+  pub dropped : t .dropped < 2 ^ 64
+  pub hash : t .«decision_hash» < 2 ^ 64
 
 pub record Sound (e : Engine) : Type 0 where
   pub made : Made (e .prepared)
@@ -82,20 +103,30 @@ pub record Sound (e : Engine) : Type 0 where
   pub formed : Every Formed (e .sources)
   pub active : Unit (e .activity)
   pub held : Every (Held (e .clock .sample)) (e .particles)
+  pub lanes : length (e .streams) ≡ 3
+  pub reserved : e .next .«immediate_index» < 2 ^ 64
+  pub counted : Counted (e .tally)
 
 -- ---- time goes on
 pub fit-later : (now later : ℕ) → now ≤ later → (p : Particle) → Held now p → Held later p
-fit-later now later h p f a =
-    let s = f a in
-    record {
-      born = le-trans (s .born) h;
-      retired = λ t r. (s .retired t r .0, le-trans (s .retired t r .1) h);
-      above = s .above;
-      most = s .most;
-      slot = s .slot;
-      harmonics = s .harmonics;
-      fair = s .fair;
-    }
+fit-later now later h p f = (later-fit, f .1)
+  where
+    later-fit : p .active ≡ true → Fit later p
+    later-fit a =
+        let s = f .0 a in
+        record {
+          born = le-trans (s .born) h;
+          retired = λ t r. (s .retired t r .0, le-trans (s .retired t r .1) h);
+          above = s .above;
+          most = s .most;
+          slot = s .slot;
+          harmonics = s .harmonics;
+          fair = s .fair;
+          octave = s .octave;
+          octave-fits = s .octave-fits;
+          lifetime-fits = s .lifetime-fits;
+          power = s .power;
+        }
 
 -- ---- a newborn
 abbrev isAt : Retired → Bool
@@ -128,7 +159,7 @@ unfolding newbornOf
 newborn-fit index voice config rate sample weights s f l v o =
     let same = own-convert binary32 rate f in
     let e : envelopeOf config index (rate32 rate) ≡ envelopeOf (mendedOf (s .asked)) index rate = ap (λ (c : Config). envelopeOf c index (rate32 rate)) (s .is) ∙ ap (envelopeOf (mendedOf (s .asked)) index) same in
-    let w = subst lifetimes.Sound (sym e) (envelope-sound (s .asked) index rate (s .formed) (s .hop) l) in
+    let w = subst lifetimes.Sound (sym e) (envelope-sound (s .asked) index rate (both-formed (s .asked) (s .singles)) (s .hop) l) in
     record {
       born = le-refl sample;
       retired = λ t r. absurd (true≢false (sym (ap isAt r)));
@@ -136,7 +167,11 @@ newborn-fit index voice config rate sample weights s f l v o =
       most = w .most;
       slot = v;
       harmonics = partials-harmonics _ _ _ _ _ _ _;
-      fair = subst (λ (c : Config). Fair (newbornOf index voice c rate sample weights)) (sym (s .is)) (newborn-fair (s .asked) (s .formed) (s .hop) index voice o rate (subst (λ (x : Float). T (lawfulRate x)) (sym same) l) sample weights);
+      octave = shape-octave (config .shape) index (voice .«frequency_hz») (maxHzOf rate) (config .direction) (o .hz-fits) (o .hz-above) (o .hz-finite) (top-fits rate);
+      octave-fits = octave-fits (config .shape) index (voice .«frequency_hz») (maxHzOf rate) (config .direction);
+      lifetime-fits = fits-widens _ (lifetime-fits config index (rate32 rate));
+      power = shape-power (config .shape);
+      fair = subst (λ (c : Config). Fair (newbornOf index voice c rate sample weights)) (sym (s .is)) (newborn-fair (s .asked) (both-formed (s .asked) (s .singles)) (s .hop) index voice o rate (subst (λ (x : Float). T (lawfulRate x)) (sym same) l) sample weights);
     }
 
 voice-slot : (e : Engine) (index slot : ℕ) → slot ≤ 256 → voiceFor e index slot .slot ≤ 256

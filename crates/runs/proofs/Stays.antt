@@ -2,16 +2,19 @@
 use Prim.Native.Nat.{ℕ, _^_, _≤_}
 use native.Mathlib.Nat.{le-refl}
 use mathlib.Core.Path.{_≡_, refl, sym, _∙_, subst}
-use mathlib.Core.Bool.{Bool, true, false, true≢false}
+use mathlib.Core.Bool.{Bool, true}
 use mathlib.Core.List.{List, map}
 use borrow.Author.Tests.{ltb-false}
 use lib.Dec.{T, ltb, lit≤}
+use lib.Pow.{pow-pos}
 use lib.Bits.{bitXor}
-use lib.ListN.{getD, length-map, length-set}
+use lib.ListN.{length, getD, length-map, length-set}
 use lib.Ieee.{Float, binary32, fits, ofBits, ofFields, rem, add, sum, round, le, lt, eq, odd}
 use lib.Ieee.Bits.{ofBits-fits}
 use Rattle.lists.specs.Pick.{pick, either}
 use Rattle.floats.specs.Names.{f32}
+use Rattle.timing.specs.declared.SprinkleStream.{SprinkleStream}
+use Rattle.timing.specs.Streams.{alignedAll}
 use Rattle.choices.specs.Choose.{clamp, abs}
 use Rattle.floats.specs.Remainder.{remEuclid}
 use Rattle.pool.specs.declared.Particle.{Particle}
@@ -20,7 +23,6 @@ use Rattle.refusals.specs.declared.Answer.{Answer}
 use Rattle.settings.specs.declared.Config.{Config}
 use Rattle.settings.specs.Settings.{isSprinkle, maxHop, defaultConfig, checkedOf, lawfulRate}
 use Rattle.mending.specs.Mending.{finiteOr, heldTo, partialsOf, phaseOf, mendedOf}
-use Rattle.settings_laws.proofs.Lifetimes as lifetimes
 use Rattle.sources.specs.declared.Source.{Source}
 use Rattle.sources.specs.Sources.{noSource, isPitched, releasedOf}
 use Rattle.floats_laws.proofs.Unit.{nought-unit}
@@ -31,15 +33,17 @@ use Rattle.triggers.specs.declared.Triggered.{Triggered}
 use Rattle.state.specs.State.{withConfig, withParticles, withWeights, pastSource}
 use Rattle.state.specs.Make.{preparedOf, noParticles, noSources, newOn}
 use Rattle.basics.specs.New.{newEngineOf, resetOf}
-use Rattle.changes.specs.Changes.{retiredAll, aligned, reweighed, switched, offset, restarted, configuredTo, answeredBy, configuredOf, withNotes, notesOf, soughtNext, soughtClock, soughtOf}
+use Rattle.changes.specs.Changes.{retiredAll, aligned, reweighed, switched, offset, preparedAll, restarted, configuredTo, answeredBy, configuredOf, withNotes, notesOf, soughtNext, soughtClock, soughtOf}
 use Rattle.source_calls.specs.Slots.{withSource, placedOf, setSourceOf, retireSourceOf, releaseSourceOf}
 use Rattle.triggers.specs.Triggers.{isPermitted, reservedOf, triggeredBy, triggeredOf}
 use Rattle.lists.specs.Every.{every-map, every-set, every-getD, every-replicate, in-case}
+use Rattle.runs.specs.Acts.{Singles}
 use Rattle.runs.proofs.Sound.{Held, Settled, Made, Sound, Sounding, past-formed}
 use Rattle.runs.proofs.Kept.{held-retire-one, held-retire-bound, held-retune-one}
 use Rattle.runs.proofs.Voices.{Formed, both, pitched-sounds}
-use Rattle.runs.proofs.Chosen.{sound-next, sound-particles, sound-born}
+use Rattle.runs.proofs.Chosen.{grown-word, sound-next, sound-particles, sound-born}
 use Rattle.runs.proofs.Steps.{sound-streams, sound-clock}
+use Rattle.runs.proofs.Frames.{free-held}
 
 -- ---- one group
 pub sound-config : (e : Engine) (c : Config) → Sound e → Settled c → Sound (withConfig e c)
@@ -55,6 +59,9 @@ sound-config e c s h =
       formed = s .formed;
       active = s .active;
       held = s .held;
+      lanes = s .lanes;
+      reserved = s .reserved;
+      counted = s .counted;
     }
 
 pub sound-weights : (e : Engine) (ws : List Float) → Sound e → Sound (withWeights e ws)
@@ -70,6 +77,9 @@ sound-weights e ws s =
       formed = s .formed;
       active = s .active;
       held = s .held;
+      lanes = s .lanes;
+      reserved = s .reserved;
+      counted = s .counted;
     }
 
 pub sound-source : (e : Engine) (slot : ℕ) (x : Source) → Formed x → Sound e → Sound (withSource e slot x)
@@ -85,6 +95,9 @@ sound-source e slot x f s =
       formed = every-set Formed (e .sources) slot x f (s .formed);
       active = s .active;
       held = s .held;
+      lanes = s .lanes;
+      reserved = s .reserved;
+      counted = s .counted;
     }
 
 -- ---- every place by one function
@@ -105,12 +118,23 @@ default-mended = refl
 pub no-source-formed : Formed noSource
 no-source-formed = record { hz = ofBits-fits binary32 0; strength = ofBits-fits binary32 0 }
 
+default-singles : Singles defaultConfig
+default-singles =
+    record {
+      rate = ofBits-fits binary32 0x3f800000;
+      size = ofBits-fits binary32 0x3f800000;
+      phase = ofBits-fits binary32 0;
+      rolloff = ofBits-fits binary32 0x40c00000;
+      attack = ofBits-fits binary32 0;
+      release = ofBits-fits binary32 0x428c0000;
+    }
+
 sound-on : (p : Prepared) → Made p → Sound (newOn p)
-unfolding newOn noParticles noSources freeParticle ofBits
+unfolding newOn noParticles noSources ofBits
 sound-on p m =
     record {
       made = m;
-      settled = record { asked = defaultConfig; formed = record { rate = ofBits-fits binary32 0x3f800000; size = ofBits-fits binary32 0x3f800000 }; hop = lit≤ tt; is = default-mended };
+      settled = record { asked = defaultConfig; singles = default-singles; hop = lit≤ tt; is = default-mended };
       tried = lit≤ tt;
       last = le-refl 256;
       time = lit≤ tt;
@@ -118,7 +142,10 @@ sound-on p m =
       slots = refl;
       formed = every-replicate Formed 256 noSource no-source-formed;
       active = nought-unit;
-      held = every-replicate (Held 0) 64 freeParticle (λ a. absurd (true≢false (sym a)));
+      held = every-replicate (Held 0) 64 freeParticle (free-held 0);
+      lanes = refl;
+      reserved = pow-pos 64;
+      counted = record { births = pow-pos 64; dropped = pow-pos 64; hash = pow-pos 64 };
     }
 
 made-of : (rate : Float) → T (fits binary32 rate) → T (lawfulRate rate) → Made (preparedOf rate)
@@ -140,9 +167,17 @@ unfolding resetOf
 sound-reset e s = sound-on (e .prepared) (s .made)
 
 -- ---- configure, of a config whose floats are f32s
+pub three-aligned : (reference : Float) (sync : Bool) → length (alignedAll reference sync) ≡ 3
+unfolding alignedAll
+three-aligned reference sync = refl
+
+pub three-prepared : (ss : List SprinkleStream) (sync : Bool) → length (preparedAll ss sync) ≡ 3
+unfolding preparedAll
+three-prepared ss sync = refl
+
 sound-aligned : (e : Engine) → Sound e → Sound (aligned e)
 unfolding aligned
-sound-aligned e s = sound-streams e _ s
+sound-aligned e s = sound-streams e _ (three-aligned _ (e .config .sync)) s
 
 sound-configured-to : (e : Engine) (c : Config) → Sound e → Settled c → Sound (configuredTo e c)
 unfolding configuredTo restarted offset switched reweighed
@@ -151,18 +186,18 @@ sound-configured-to e c s h =
     let k = either Sound _ _ _ w (sound-retired _ w) in
     let o = either Sound _ _ _ (sound-clock _ _ k (le-refl _) (k .time)) k in
     let n = sound-config _ c o h in
-    either Sound _ _ _ (sound-aligned _ n) (either Sound _ _ _ n (sound-streams _ _ n))
+    either Sound _ _ _ (sound-aligned _ n) (either Sound _ _ _ n (sound-streams _ _ (three-prepared _ _) n))
 
-pub sound-configured : (e : Engine) (c : Config) → lifetimes.Formed c → Sound e → Sound (configuredOf e c .engine)
+pub sound-configured : (e : Engine) (c : Config) → Singles c → Sound e → Sound (configuredOf e c .engine)
 unfolding configuredOf checkedOf
-sound-configured e c f s =
+sound-configured e c g s =
     in-case (λ (a : Answer). Sound (answeredBy a e c .engine)) (ltb maxHop (c .«hop_samples»)) _ _ (λ q. s)
-    (λ q. sound-configured-to e (mendedOf c) s (record { asked = c; formed = f; hop = ltb-false _ _ q; is = refl }))
+    (λ q. sound-configured-to e (mendedOf c) s (record { asked = c; singles = g; hop = ltb-false _ _ q; is = refl }))
 
 -- ---- the sources
 pub sound-notes : (e : Engine) (present : Bool) → Sound e → Sound (notesOf e present)
 unfolding notesOf
-sound-notes e present s = sound-next e (withNotes (e .next) present) s (s .last)
+sound-notes e present s = sound-next e (withNotes (e .next) present) s (s .last) (s .reserved)
 
 sound-placed : (e : Engine) (slot : ℕ) (x : Source) → Formed x → Sound e → Sound (placedOf e slot x)
 unfolding placedOf
@@ -193,12 +228,12 @@ pub sound-sought : (e : Engine) (cycles : Float) → Sound e → Sound (soughtOf
 unfolding soughtOf retiredAll
 sound-sought e cycles s =
     let r = sound-mapped e _ s (held-retire-one (e .clock .sample)) in
-    sound-aligned _ (sound-next _ (soughtNext e (soughtClock e cycles)) (sound-clock _ (soughtClock e cycles) r (le-refl _) (s .time)) (le-refl 256))
+    sound-aligned _ (sound-next _ (soughtNext e (soughtClock e cycles)) (sound-clock _ (soughtClock e cycles) r (le-refl _) (s .time)) (le-refl 256) (pow-pos 64))
 
 -- ---- triggers
 pub sound-reserved : (e : Engine) → Sound e → Sound (reservedOf e .engine)
 unfolding reservedOf
-sound-reserved e s = sound-next e _ s (s .last)
+sound-reserved e s = sound-next e _ s (s .last) (grown-word _)
 
 pub permitted-sounding : (e : Engine) (slot : ℕ) → isPermitted e slot ≡ true → Sounding (e .sources) slot
 unfolding isPermitted

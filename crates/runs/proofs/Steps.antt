@@ -1,10 +1,11 @@
 -- A sample, and so an accepted `advance`, leaves an engine as sound as it was.
 use Prim.Native.Nat.{ℕ, zero, suc, _+_, _^_, _≤_, _<_}
 use native.Mathlib.Omega.{arith}
-use mathlib.Core.Path.{_≡_, refl}
+use mathlib.Core.Path.{_≡_, refl, _∙_}
 use mathlib.Core.List.{List}
 use borrow.Author.Tests.{leb-true}
 use lib.Dec.{leb}
+use lib.ListN.{length, length-set}
 use lib.Ieee.{Float}
 use Rattle.lists.specs.Pick.{either}
 use Rattle.lists.specs.Times.{iterate}
@@ -23,8 +24,8 @@ use Rattle.lists.specs.Every.{every-imp, in-case}
 use Rattle.runs.proofs.Sound.{Sound, Held, fit-later}
 use Rattle.runs.proofs.Chosen.{none-sounding, sound-next, sound-born}
 
-pub sound-streams : (e : Engine) (ss : List SprinkleStream) → Sound e → Sound (withStreams e ss)
-sound-streams e ss s =
+pub sound-streams : (e : Engine) (ss : List SprinkleStream) → length ss ≡ 3 → Sound e → Sound (withStreams e ss)
+sound-streams e ss l s =
     record {
       made = s .made;
       settled = s .settled;
@@ -36,6 +37,9 @@ sound-streams e ss s =
       formed = s .formed;
       active = s .active;
       held = s .held;
+      lanes = l;
+      reserved = s .reserved;
+      counted = s .counted;
     }
 
 -- the clock at the same sample or a later one
@@ -52,14 +56,17 @@ sound-clock e k s h l =
       formed = s .formed;
       active = s .active;
       held = every-imp (Held (e .clock .sample)) (Held (k .sample)) (fit-later (e .clock .sample) (k .sample) h) (e .particles) (s .held);
+      lanes = s .lanes;
+      reserved = s .reserved;
+      counted = s .counted;
     }
 
 -- ---- births of a sample
 sound-tried : (e : Engine) (lane : ℕ) (reference : Float) → Sound e → Sound (triedOf e lane reference)
 unfolding triedOf
 sound-tried e lane reference s =
-    either Sound _ _ _ s
-    (either Sound _ _ _ (either Sound _ _ _ (sound-born _ _ _ (sound-streams e _ s) (none-sounding (e .sources))) (sound-streams e _ s)) (sound-streams e _ s))
+    let m = sound-streams e _ (length-set (e .streams) lane _ ∙ s .lanes) s in
+    either Sound _ _ _ s (either Sound _ _ _ (either Sound _ _ _ (sound-born _ _ _ m (none-sounding (e .sources))) m) m)
 
 sound-lane : (e : Engine) (lane : ℕ) (reference : Float) → Sound e → Sound (laneOf e lane reference)
 unfolding laneOf
@@ -69,7 +76,7 @@ sound-shape : (shape : Shape) (e : Engine) (reference : Float) → Sound e → S
 unfolding byShape lanesOf cloudOf
 sound-shape Sprinkle e reference s = sound-lane _ 2 reference (sound-lane _ 1 reference (sound-lane e 0 reference s))
 sound-shape Cloud e reference s =
-    let moved = sound-next e (withOpportunity (e .next) (opportunityAfter (e .next .opportunity) reference)) s (s .last) in
+    let moved = sound-next e (withOpportunity (e .next) (opportunityAfter (e .next .opportunity) reference)) s (s .last) (s .reserved) in
     either Sound _ _ _ (either Sound _ _ _ (sound-born _ _ _ moved (none-sounding (e .sources))) moved) s
 
 pub sound-delivered : (e : Engine) → Sound e → Sound (deliveredOf e)

@@ -6,7 +6,7 @@ use mathlib.Core.List.{List, [], _∷_, _++_, map}
 use lib.Bits.{bitXor}
 use lib.Dec.{T, eqb, leb, ltb}
 use lib.ListN.{getD, set}
-use lib.Ieee.{Float, binary32, fits, lt, le, eq}
+use lib.Ieee.{Float, binary32, binary64, fits, lt, le, eq}
 use Rattle.lists.specs.Pick.{pick}
 use Rattle.lists.specs.Times.{iterate}
 use Rattle.draws.specs.Draws.{keyOf}
@@ -158,9 +158,21 @@ pub data Call : Type 0 where
 abbrev pub Single : Float → Type 0
 Single x = T (fits binary32 x)
 
--- what the code's types say of a call: its floats are f32s
+abbrev pub Double : Float → Type 0
+Double x = T (fits binary64 x)
+
+-- the settings' floats are f32s
+pub record Singles (c : Config) : Type 0 where
+  pub rate : Single (c .«rate_hz»)
+  pub size : Single (c .«size_octaves»)
+  pub phase : Single (c .phase)
+  pub rolloff : Single (c .«partial_rolloff_db»)
+  pub attack : Single (c .«attack_ms»)
+  pub release : Single (c .«release_ms»)
+
+-- what the code's types say of a call: its floats are f32s, and a seek's an f64
 abbrev pub Typed : Call → Type 0
-Typed (configure c) = Single (c .«rate_hz») × Single (c .«size_octaves»)
+Typed (configure c) = Singles c
 Typed (setSource slot s) = Single (s .«frequency_hz») × Single (s .strength)
 Typed (takeFrame binHz seconds) = Single seconds
 Typed (noteInput present) = Unit {0}
@@ -169,7 +181,7 @@ Typed (releaseSource slot) = Unit {0}
 Typed (trigger slot) = Unit {0}
 Typed reserve = Unit {0}
 Typed (reserved slot index) = Unit {0}
-Typed (seek cycles) = Unit {0}
+Typed (seek cycles) = Double cycles
 Typed (advance n) = Unit {0}
 
 unfoldable pub actsOf : Engine → Call → List Act

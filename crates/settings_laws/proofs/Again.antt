@@ -16,8 +16,10 @@ use Rattle.floats.specs.Remainder.{remEuclid}
 use Rattle.floats_laws.proofs.Rules.{between-finite}
 use Rattle.floats_laws.proofs.Rising.{nought}
 use Rattle.floats_laws.proofs.Euclid.{euclid-within}
+use Rattle.floats_laws.proofs.Choosing.{clamp-fits}
 use Rattle.floats_laws.proofs.Again.{clamp-again, clamp-finite, euclid-fits, euclid-again}
 use Rattle.settings.specs.declared.Config.{Config}
+use Rattle.settings_laws.specs.Phase.{withPhase}
 use Rattle.mending.specs.Mending.{finiteOr, heldTo, attackOf, releaseMsOf, partialsOf, rolloffOf, rateOf, sizeOf, phaseOf, mendedOf}
 
 -- ---- `finite`
@@ -42,6 +44,10 @@ unfolding finiteOr
 or-fits x d p q = cond-fits binary32 (finite x) x d p q
 
 -- ---- a number held to its range
+pub held-fits : (x d a b : Float) → T (fits binary32 x) → T (fits binary32 d) → T (fits binary32 a) → T (fits binary32 b) → T (fits binary32 (heldTo x d a b))
+unfolding heldTo
+held-fits x d a b p q r s = clamp-fits binary32 (finiteOr x d) a b (or-fits x d p q) r s
+
 module _ (x d a b : Float) (D : T (finite d)) (A : T (finite a)) (B : T (finite b)) where
   pub held-again : lt a a ≡ false → lt b a ≡ false → lt b b ≡ false → heldTo (heldTo x d a b) d a b ≡ heldTo x d a b
   unfolding heldTo
@@ -116,24 +122,6 @@ unfolding phaseOf finiteOr remEuclid rem add sum round ofBits lt abs
 whole-phase = refl
 
 -- ---- the whole
-abbrev pub withPhase : Float → Config → Config
-withPhase x c =
-    record {
-      enabled = c .enabled;
-      shape = c .shape;
-      direction = c .direction;
-      «rate_hz» = c .«rate_hz»;
-      «size_octaves» = c .«size_octaves»;
-      phase = x;
-      scheduled = c .scheduled;
-      sync = c .sync;
-      «hop_samples» = c .«hop_samples»;
-      partials = c .partials;
-      «partial_rolloff_db» = c .«partial_rolloff_db»;
-      «attack_ms» = c .«attack_ms»;
-      «release_ms» = c .«release_ms»;
-    }
-
 -- mending again changes the phase at most
 pub mended-but-phase : (c : Config) → mendedOf (mendedOf c) ≡ withPhase (phaseOf (mendedOf c .phase)) (mendedOf c)
 unfolding mendedOf

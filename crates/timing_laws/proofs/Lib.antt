@@ -1,2 +1,4 @@
 pub mod Starts
 pub mod Moves
+pub mod Due
+pub mod Lanes

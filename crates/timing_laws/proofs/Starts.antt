@@ -18,7 +18,7 @@ use Rattle.starts.specs.Starts.{after, quarter, half, startOf, gapOf, humanOf, 
 use Rattle.timing.specs.Streams.{preparedOf, referenceOf}
 
 -- ---- the parts
-start-mag : (key : ℕ) → Mag (startOf key) 10
+pub start-mag : (key : ℕ) → Mag (startOf key) 10
 unfolding startOf ofBits
 start-mag key =
     let step = mul32 (randomOf key 0) (f32 0x41100000) in
@@ -26,24 +26,24 @@ start-mag key =
     let m2 = mul-mag binary64 (floor binary32 step) quarter 9 1 (lit≤ tt) m1 (lit≤ tt) in
     add-mag binary64 quarter (mul64 (floor binary32 step) quarter) 1 9 (lit≤ tt) (lit≤ tt) m2
 
-gap-mag : (key : ℕ) → Mag (gapOf key) 3
+pub gap-mag : (key : ℕ) → Mag (gapOf key) 3
 unfolding gapOf ofBits
 gap-mag key =
     let step = mul32 (randomOf (after key) 0) (f32 0x40400000) in
     mul-mag binary64 (floor binary32 step) quarter 3 1 (lit≤ tt) (floor-mag binary32 step 3 (lit≤ tt) (mul-mag binary32 (randomOf (after key) 0) (f32 0x40400000) 1 3 (lit≤ tt) (random-mag (after key) 0) (lit≤ tt))) (lit≤ tt)
 
 -- a draw about its middle, times a number of at most 1
-about-mag : (x : Float) (index stream : ℕ) → Mag x 1 → Mag (mul64 x (sub64 (randomOf index stream) half)) 2
+pub about-mag : (x : Float) (index stream : ℕ) → Mag x 1 → Mag (mul64 x (sub64 (randomOf index stream) half)) 2
 unfolding ofBits
 about-mag x index stream h = mul-mag binary64 x (sub64 (randomOf index stream) half) 1 2 (lit≤ tt) h (sub-mag binary64 (randomOf index stream) half 1 1 (lit≤ tt) (random-mag index stream) (lit≤ tt))
 
-human-mag : (sync : Bool) (key : ℕ) → Mag (humanOf sync key) 2
+pub human-mag : (sync : Bool) (key : ℕ) → Mag (humanOf sync key) 2
 unfolding humanOf ofBits
 human-mag true key = lit≤ tt
 human-mag false key = about-mag (f64 0x3fc70a3d70a3d70a) key 8 (lit≤ tt)
 
 -- ---- sums with a whole number of 64 bits
-next-mag : (index key : ℕ) (sync : Bool) → index < 2 ^ 64 → Mag (nextOf index key sync) (2 ^ 69)
+pub next-mag : (index key : ℕ) (sync : Bool) → index < 2 ^ 64 → Mag (nextOf index key sync) (2 ^ 69)
 unfolding nextOf ofBits
 next-mag index key sync h =
     let group = ofInt binary64 (pos (index / 2)) in

@@ -1,0 +1,3 @@
+pub mod Alpha
+pub mod Clocks
+pub mod Opportunities
