@@ -15,6 +15,7 @@ mod linked {
         pub fn rk_pow8(x: f32) -> f32;
         pub fn rk_pow10(x: f32) -> f32;
         pub fn rk_sqrt(x: f32) -> f32;
+        pub fn rk_probe_rem_euclid64(x: f64, m: f64) -> f64;
         pub fn rk_script(script: *const u8, length: usize, out: *mut u8, room: usize) -> u32;
         pub fn rk_probe_gains(
             flat: *const f32,
@@ -107,6 +108,11 @@ ours! {
     pow8, rk_pow8, f32;
     pow10, rk_pow10, f32;
     sqrt, rk_sqrt, f32;
+}
+
+/// The proved Euclidean remainder by 1.
+pub fn wrapped(x: f64) -> f64 {
+    unsafe { linked::rk_probe_rem_euclid64(x, 1.0) }
 }
 
 /// The distance of neighbouring f32s at the size of t, and past the largest.

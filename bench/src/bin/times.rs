@@ -1,6 +1,6 @@
-//! The time of each elementary function against Rust's own, on the same arguments in one run: the
-//! least of many passes over 8,193 arguments.
-use raknaduv_bench::ours;
+//! The time of each elementary function, and of the remainder by 1 that wraps a phase, against Rust's
+//! own, on the same arguments in one run: the least of many passes over 8,193 arguments.
+use raknaduv_bench::{ours, wrapped};
 use std::hint::black_box;
 use std::time::Instant;
 
@@ -64,4 +64,14 @@ fn main() {
     });
     line("sqrt, 20 to 20,020", "40", &hertz, ours::sqrt, f32::sqrt);
     line("exp64, -10 to 0", "none", &wide, ours::exp64, f64::exp);
+    for from in [-1.0, 0.0, 1.0] {
+        let phases: Vec<f64> = spread(from, from + 1.0)
+            .into_iter()
+            .map(f64::from)
+            .collect();
+        let name = format!("wrapped, {from} to {}", from + 1.0);
+        line(&name, "1.0", &phases, wrapped, |x| {
+            x.rem_euclid(black_box(1.0))
+        });
+    }
 }

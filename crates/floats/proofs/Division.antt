@@ -18,11 +18,11 @@ use Rattle.floats.proofs.Count.{Count, count-value, count-pattern, turn
 use Rattle.floats.proofs.Rem.{rem-counts}
 
 -- ---- a pattern without its sign
-abbrev rung : ℕ → ℕ
-rung a = a / 4503599627370496 - 1
+abbrev shift : ℕ → ℕ
+shift a = a / 4503599627370496 - 1
 
 abbrev digits : ℕ → ℕ
-digits a = a - rung a * 4503599627370496
+digits a = a - shift a * 4503599627370496
 
 abbrev sign : Float → Bool
 sign x = leb 9223372036854775808 (toBits binary64 x)
@@ -31,27 +31,27 @@ abbrev size : Float → ℕ
 size x = toBits binary64 x % 9223372036854775808
 
 module _ (a : ℕ) (A : a < 9218868437227405312) where
-  counted : Count binary64 (rung a) (digits a)
+  counted : Count binary64 (shift a) (digits a)
   counted = record { few = omega arith; under = omega arith }
 
-  read : (s : Bool) → turned s (ofBits binary64 a) ≡ round binary64 s (digits a * 2 ^ rung a) (2 ^ 1074)
+  read : (s : Bool) → turned s (ofBits binary64 a) ≡ round binary64 s (digits a * 2 ^ shift a) (2 ^ 1074)
   read s =
-      ap (λ (v : Float). turned s v) (ap (ofBits binary64) split ∙ count-pattern binary64 (rung a) (digits a) counted (λ (p : 0 < rung a). omega arith))
-      ∙ turned-round binary64 s (digits a * 2 ^ rung a) (2 ^ 1074)
+      ap (λ (v : Float). turned s v) (ap (ofBits binary64) split ∙ count-pattern binary64 (shift a) (digits a) counted (λ (p : 0 < shift a). omega arith))
+      ∙ turned-round binary64 s (digits a * 2 ^ shift a) (2 ^ 1074)
     where
-      split : a ≡ rung a * 4503599627370496 + digits a
+      split : a ≡ shift a * 4503599627370496 + digits a
       split = omega arith
 
--- a higher rung is a larger number
-below : (a b : ℕ) → rung a < rung b → digits a * 2 ^ rung a < digits b * 2 ^ rung b
+-- a number with the greater shift is larger
+below : (a b : ℕ) → shift a < shift b → digits a * 2 ^ shift a < digits b * 2 ^ shift b
 below a b h =
-    lt-of-lt-of-le (shl-lt 53 (rung a) (few a))
-    (le-trans (pow-mono (step (rung a) (rung b) h)) (le-trans (le-of-eq (pow-add 2 52 (rung b))) (mul-le-mul-right (2 ^ rung b) (lead b (omega arith)))))
+    lt-of-lt-of-le (shl-lt 53 (shift a) (few a))
+    (le-trans (pow-mono (step (shift a) (shift b) h)) (le-trans (le-of-eq (pow-add 2 52 (shift b))) (mul-le-mul-right (2 ^ shift b) (lead b (omega arith)))))
   where
     few : (a : ℕ) → digits a < 2 ^ 53
     few a = omega arith
 
-    lead : (b : ℕ) → 0 < rung b → 2 ^ 52 ≤ digits b
+    lead : (b : ℕ) → 0 < shift b → 2 ^ 52 ≤ digits b
     lead b p = omega arith
 
     step : (i j : ℕ) → i < j → 53 + i ≤ 52 + j
@@ -110,31 +110,31 @@ module _ (x m : Float) (p : T (fits binary64 x)) (q : T (fits binary64 m)) where
 
   -- ---- finite numbers
   module _ (A : size x < 9218868437227405312) where
-    dividend : x ≡ round binary64 (sign x) (digits (size x) * 2 ^ rung (size x)) (2 ^ 1074)
+    dividend : x ≡ round binary64 (sign x) (digits (size x) * 2 ^ shift (size x)) (2 ^ 1074)
     dividend = by-size binary64 x p ∙ read (size x) A (sign x)
 
-    value : HasValue x (sign x) (digits (size x) * 2 ^ rung (size x)) (2 ^ 1074)
-    value = subst (λ (v : Float). HasValue v (sign x) (digits (size x) * 2 ^ rung (size x)) (2 ^ 1074)) (sym dividend) (count-value binary64 (rung (size x)) (digits (size x)) (counted (size x) A) (sign x))
+    value : HasValue x (sign x) (digits (size x) * 2 ^ shift (size x)) (2 ^ 1074)
+    value = subst (λ (v : Float). HasValue v (sign x) (digits (size x) * 2 ^ shift (size x)) (2 ^ 1074)) (sym dividend) (count-value binary64 (shift (size x)) (digits (size x)) (counted (size x) A) (sign x))
 
     module _ (B : size m < 9218868437227405312) (Z : 0 < size m) where
-      divisor : HasValue m (sign m) (digits (size m) * 2 ^ rung (size m)) (2 ^ 1074)
+      divisor : HasValue m (sign m) (digits (size m) * 2 ^ shift (size m)) (2 ^ 1074)
       divisor =
-          subst (λ (v : Float). HasValue v (sign m) (digits (size m) * 2 ^ rung (size m)) (2 ^ 1074)) (sym (by-size binary64 m q ∙ read (size m) B (sign m)))
-          (count-value binary64 (rung (size m)) (digits (size m)) (counted (size m) B) (sign m))
+          subst (λ (v : Float). HasValue v (sign m) (digits (size m) * 2 ^ shift (size m)) (2 ^ 1074)) (sym (by-size binary64 m q ∙ read (size m) B (sign m)))
+          (count-value binary64 (shift (size m)) (digits (size m)) (counted (size m) B) (sign m))
 
       some : 0 < digits (size m)
       some = omega arith
 
-      finite-is : rem binary64 x m ≡ round binary64 (sign x) (digits (size x) * 2 ^ rung (size x) % (digits (size m) * 2 ^ rung (size m))) (2 ^ 1074)
-      finite-is = rem-counts binary64 x m (sign x) (sign m) _ _ (2 ^ 1074) (mul-pos some (pow-pos (rung (size m)))) (pow-pos 1074) value divisor
+      finite-is : rem binary64 x m ≡ round binary64 (sign x) (digits (size x) * 2 ^ shift (size x) % (digits (size m) * 2 ^ shift (size m))) (2 ^ 1074)
+      finite-is = rem-counts binary64 x m (sign x) (sign m) _ _ (2 ^ 1074) (mul-pos some (pow-pos (shift (size m)))) (pow-pos 1074) value divisor
 
-      long : rung (size m) ≤ rung (size x)
-          → turned (sign x) (round binary64 false (digits (size x) * 2 ^ (rung (size x) - rung (size m)) % digits (size m) * 2 ^ rung (size m)) (2 ^ 1074)) ≡ rem binary64 x m
+      long : shift (size m) ≤ shift (size x)
+          → turned (sign x) (round binary64 false (digits (size x) * 2 ^ (shift (size x) - shift (size m)) % digits (size m) * 2 ^ shift (size m)) (2 ^ 1074)) ≡ rem binary64 x m
       long h =
-          turned-round binary64 (sign x) (digits (size x) * 2 ^ (rung (size x) - rung (size m)) % digits (size m) * 2 ^ rung (size m)) (2 ^ 1074)
-          ∙ sym (finite-is ∙ ap (λ (n : ℕ). round binary64 (sign x) n (2 ^ 1074)) (places-off (digits (size x)) (digits (size m)) (rung (size x)) (rung (size m)) h some))
+          turned-round binary64 (sign x) (digits (size x) * 2 ^ (shift (size x) - shift (size m)) % digits (size m) * 2 ^ shift (size m)) (2 ^ 1074)
+          ∙ sym (finite-is ∙ ap (λ (n : ℕ). round binary64 (sign x) n (2 ^ 1074)) (places-off (digits (size x)) (digits (size m)) (shift (size x)) (shift (size m)) h some))
 
-    pub short : size m ≤ 9218868437227405312 → rung (size x) < rung (size m) → x ≡ rem binary64 x m
+    pub short : size m ≤ 9218868437227405312 → shift (size x) < shift (size m) → x ≡ rem binary64 x m
     short h l = elim (eq-or-lt-of-le h) [
       | inl e ↦ sym (ap (rem binary64 x) (is-infinite m q e) ∙ by-infinite x (sign x) (sign m) _ (2 ^ 1074) value)
       | inr b ↦
@@ -142,7 +142,7 @@ module _ (x m : Float) (p : T (fits binary64 x)) (q : T (fits binary64 m)) where
     ]
 
   -- with the names of the code
-  pub long-is : (w y i j r : ℕ) (v : Float) → w ≡ toBits binary64 x → y ≡ toBits binary64 m → i ≡ rung (w % 9223372036854775808) → j ≡ rung (y % 9223372036854775808)
+  pub long-is : (w y i j r : ℕ) (v : Float) → w ≡ toBits binary64 x → y ≡ toBits binary64 m → i ≡ shift (w % 9223372036854775808) → j ≡ shift (y % 9223372036854775808)
       → w % 9223372036854775808 < 9218868437227405312 → 0 < y % 9223372036854775808 → y % 9223372036854775808 ≤ 9218868437227405312 → j ≤ i
       → r ≡ (w % 9223372036854775808 - i * 4503599627370496) * 2 ^ (i - j) % (y % 9223372036854775808 - j * 4503599627370496)
       → v ≡ round binary64 false (r * 2 ^ j) (2 ^ 1074)

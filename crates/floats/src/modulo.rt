@@ -9,8 +9,8 @@ use casts::bits64;
 use casts::f32_to_f64;
 use choices::pick64;
 
-// The k of the pattern p, which has no sign.
-fn rung(p: u64) -> u64
+// How far the digits of the pattern p, which has no sign, are shifted up: its k.
+fn shift(p: u64) -> u64
     ensures { λ k. ⌜ k ≡ p / 4503599627370496 - 1 ⌝ }
 {
     let field = p / 4503599627370496;
@@ -57,7 +57,7 @@ fn assembled(r: u64, k: u64) -> f64
     f64::from_bits((k - z) * 4503599627370496 + moved(r, z))
 }
 
-// A NaN where x is not finite, or m is a NaN or zero. A dividend with fewer places is its own
+// A NaN where x is not finite, or m is a NaN or zero. A dividend with the lesser shift is its own
 // remainder, also of an infinity. The sign is the dividend's.
 pub fn divided(x: f64, m: f64) -> f64
     ensures { λ r. ⌜ r ≡ rem binary64 x m ⌝ }
@@ -71,8 +71,8 @@ pub fn divided(x: f64, m: f64) -> f64
     if b > 9218868437227405312 {
         return 0.0 / 0.0;
     }
-    let i = rung(a);
-    let j = rung(b);
+    let i = shift(a);
+    let j = shift(b);
     if i < j {
         return x;
     }

@@ -31,11 +31,11 @@ returns-2 c =
     let s = c .before .before .before .before in
     by-nan (s .args .x) (s .args .m) (passes _ (s .good .0 .1)) (passes _ (s .good .1 .0 .1)) (omega (arith, c .before .before .bits642 .ensures, c .if2 .taken))
 
-rung-requires : tie.Need-rung-requires
-rung-requires c κs = search needs
+shift-requires : tie.Need-shift-requires
+shift-requires c κs = search needs
 
-rung-requires-2 : tie.Need-rung-requires-2
-rung-requires-2 c κs = search needs
+shift-requires-2 : tie.Need-shift-requires-2
+shift-requires-2 c κs = search needs
 
 returns-3 : tie.Need-returns-3
 returns-3 c =
@@ -43,8 +43,8 @@ returns-3 c =
     let s = k .before .before in
     let ex = k .before .bits64 .ensures in
     let em = k .bits642 .ensures in
-    let ei = c .before .before .rung .ensures in
-    let ej = c .before .rung2 .ensures in
+    let ei = c .before .before .shift .ensures in
+    let ej = c .before .shift2 .ensures in
     short (s .args .x) (s .args .m) (passes _ (s .good .0 .1)) (passes _ (s .good .1 .0 .1)) (omega (arith, ex, c .before .before .before .before .if1 .left)) (omega (arith, em, c .before .before .before .if2 .left))
     (omega (arith, ex, em, ei, ej, c .if3 .taken))
 
@@ -82,7 +82,7 @@ returns-5 c =
     let s = n .before .before in
     c .pick64 .ensures
     ∙ long-is (s .args .x) (s .args .m) (passes _ (s .good .0 .1)) (passes _ (s .good .1 .0 .1)) (n .before .bits64 .result) (n .bits642 .result) _ _ _ _ (n .before .bits64 .ensures) (n .bits642 .ensures)
-    (k .before .before .before .before .rung .ensures) (k .before .before .before .rung2 .ensures) (k .before .before .before .before .before .before .if1 .left) (omega (arith, k .before .if4 .left))
+    (k .before .before .before .before .shift .ensures) (k .before .before .before .shift2 .ensures) (k .before .before .before .before .before .before .if1 .left) (omega (arith, k .before .if4 .left))
     (k .before .before .before .before .before .if2 .left) (k .before .before .if3 .left) (k .scaled-rem .ensures) (c .before .assembled .ensures)
 
 pub divided-spec : {M : Type 1} → statement M
@@ -93,8 +93,8 @@ divided-spec =
     bits64-requires-2
     returns
     returns-2
-    rung-requires
-    rung-requires-2
+    shift-requires
+    shift-requires-2
     returns-3
     returns-4
     mul-scaled-rem
