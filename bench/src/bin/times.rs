@@ -70,7 +70,7 @@ fn main() {
             .map(f64::from)
             .collect();
         let name = format!("wrapped, {from} to {}", from + 1.0);
-        line(&name, "1.0", &phases, wrapped, |x| {
+        line(&name, "none", &phases, wrapped, |x| {
             x.rem_euclid(black_box(1.0))
         });
     }
