@@ -1,1 +1,2 @@
+pub mod FrameBytes
 pub mod Ways

@@ -10,10 +10,7 @@ use Rattle.refusals.specs.declared.Answer.the-variants.{Refused}
 use Rattle.refusals.specs.declared.Refusal.the-variants.{Lengths}
 use Rattle.ending.specs.declared.Ended.{Ended}
 use Rattle.ending.specs.Ended.{ranOf}
-use Rattle.entry.specs.Entry.{bytesOf, ifTaken, entryAnswer, entryBytes}
-
-abbrev frameBytes : Ended → List ℕ
-frameBytes e = bytesOf (e .frame .windows) (e .frame .activity)
+use Rattle.entry.specs.Entry.{frameBytes, ifTaken, entryAnswer, entryBytes}
 
 module _ (s o : List ℕ) where
   -- a lent length that is not a frame's
@@ -22,6 +19,6 @@ module _ (s o : List ℕ) where
   lengths h = (rw (ne-eqb _ _ h), rw (ne-eqb _ _ h))
 
   -- the script's own answer
-  pub ran : (e : Ended) (a : Answer) → length o ≡ 2308 → e ≡ ranOf s → e .answer ≡ a → (a ≡ entryAnswer s o) × (ifTaken a (frameBytes e) o ≡ entryBytes s o)
+  pub ran : (e : Ended) (a : Answer) → length o ≡ 2308 → e ≡ ranOf s → e .answer ≡ a → (a ≡ entryAnswer s o) × (ifTaken a (frameBytes (e .frame)) o ≡ entryBytes s o)
   unfolding entryAnswer entryBytes pick
   ran e a h q told = (rw (eq-eqb _ _ h, ← q, told), rw (eq-eqb _ _ h, ← q, told))

@@ -1,8 +1,7 @@
 // What a host asks a script for: its last accepted frame, as bytes.
 ghost use mathlib.Core.Path.{_≡_};
-ghost use Prim.Native.Nat.{_<_};
-ghost use lib.ListN.{length};
-ghost use Rattle.entry.specs.Entry.{partOf, wordOf, digitOf, byteOf, bytesOf, entryAnswer, entryBytes};
+ghost use Rattle.text.specs.Put.{placeOf, bufferOf};
+ghost use Rattle.entry.specs.Entry.{partOf, wordOf, digitOf, byteOf, bytesOf, frameBytes, entryAnswer, entryBytes};
 use ending::Ended;
 use refusals::Answer;
 use refusals::Refusal;
@@ -24,12 +23,11 @@ fn part(w: Window, i: usize) -> f32
     w.amplitude
 }
 
-// The bits of number i: three for each window, then the activity.
-fn word(ws: [Window; 192], activity: f32, i: usize) -> u32
-    ensures { λ r. ⌜ r ≡ wordOf ws activity i ⌝ }
+// The bits of number i, three for each window and then the activity; w is the window of number i.
+fn word(w: Window, activity: f32, i: usize) -> u32
+    ensures { λ r. ⌜ r ≡ wordOf w activity i ⌝ }
 {
     if i < 576 {
-        let w = ws[i / 3];
         return floats::bits32(part(w, i % 3));
     }
     floats::bits32(activity)
@@ -51,21 +49,33 @@ fn digit(n: u32, i: usize) -> u8
     (n % 256) as u8
 }
 
-fn byte(ws: [Window; 192], activity: f32, j: usize) -> u8
-    ensures { λ r. ⌜ r ≡ byteOf ws activity j ⌝ }
+fn byte(w: Window, activity: f32, j: usize) -> u8
+    ensures { λ r. ⌜ r ≡ byteOf w activity j ⌝ }
 {
-    digit(word(ws, activity, j / 4), j % 4)
+    digit(word(w, activity, j / 4), j % 4)
 }
 
-fn fill(ws: [Window; 192], activity: f32, out: &mut [u8])
-    requires { ⌜ length (now out) ≡ 2308 ⌝ }
-    ensures { λ r. ⌜ now (out .exit) ≡ bytesOf ws activity ⌝ }
+// One window at a time: handed on whole they would be copied for every byte. Behind the last of them
+// stands the activity, whatever window comes with it.
+fn bytes(ws: [Window; 192], activity: f32) -> [u8; 2308]
+    ensures { λ r. ⌜ r ≡ bytesOf ws activity ⌝ }
 {
-    let mut j = 0;
-    while j < FRAME_BYTES {
-        out[j] = byte(ws, activity, j);
-        j += 1;
+    let mut out = [0u8; 2308];
+    for j in 0..FRAME_BYTES {
+        let w = ws[j / 12 % 192];
+        out[j] = byte(w, activity, j);
     }
+    out
+}
+
+// A frame's bytes from a place on, and the place after them. Where they do not fit none is written, and
+// the place is past the buffer's end.
+pub fn put_frame(out: &mut [u8], at: usize, frame: Frame) -> usize
+    ensures { λ r. ⌜ (r ≡ placeOf (now (out .entry)) at (frameBytes frame)) × (now (out .exit) ≡ bufferOf (now (out .entry)) at (frameBytes frame)) ⌝ }
+{
+    let ws = frame.windows;
+    let bytes = bytes(ws, frame.activity);
+    text::put(out, at, &bytes)
 }
 
 // The bytes change only where the answer is `Taken`.
@@ -78,10 +88,9 @@ pub fn last_frame(script: &[u8], out: &mut [u8]) -> Answer
     let ended = ending::run_script(script);
     let answer = ended.answer;
     let frame = ended.frame;
-    let ws = frame.windows;
     match answer {
         Answer::Taken => {
-            fill(ws, frame.activity, out);
+            put_frame(out, 0, frame);
             Answer::Taken
         }
         Answer::Refused(refusal) => Answer::Refused(refusal),
