@@ -8,19 +8,14 @@ use std::{env, fs};
 const FOUND: [(&str, &str, &str, &str); 7] = [
     ("libprobe.a", "rk_probe_floor32", "probe", "probed"),
     ("libreplay.a", "rk_probe_listing", "replay", "listed"),
-    ("libreplay.a", "rk_probe_states", "replay", "stated"),
+    ("libreplay.a", "rk_probe_fields", "replay", "left"),
     (
         "libreplay.a",
         "rk_probe_listing_from",
         "replay",
         "late_listed",
     ),
-    (
-        "libreplay.a",
-        "rk_probe_states_from",
-        "replay",
-        "late_stated",
-    ),
+    ("libreplay.a", "rk_probe_fields_from", "replay", "late_left"),
     ("libhost.a", "rk_log2", "host", "linked"),
     ("libhost.a", "rk_script", "host", "entry"),
 ];

@@ -1,6 +1,7 @@
 //! The comparison: every case that can be compared today, one line a part, and at the end how many
 //! cases there were and how many differ.
 use crate::arguments::{Arguments, ARGUMENTS};
+use crate::part::Part;
 use crate::probes::{Probe, PROBED, PROBES};
 use crate::{elementary, late, lent, marked, masks, ours, reached, scripts};
 use std::io::{self, Write};
@@ -20,7 +21,7 @@ pub struct Sum<'a, W: Write> {
 }
 
 impl<W: Write> Sum<'_, W> {
-    pub fn part(&mut self, name: &str, cases: u64, differing: &[String]) -> io::Result<()> {
+    fn part(&mut self, name: &str, cases: u64, differing: &[String]) -> io::Result<()> {
         self.cases += cases;
         self.differ += differing.len() as u64;
         let found = differing.len();
@@ -35,7 +36,14 @@ impl<W: Write> Sum<'_, W> {
         ))?;
         self.some(failing)
     }
-    pub fn absent(&mut self, what: &str) -> io::Result<()> {
+    pub fn script_part(&mut self, part: &Part) -> io::Result<()> {
+        if part.here {
+            self.part(&part.name, part.cases, &part.differing)
+        } else {
+            self.absent(&format!("{} (not in the archives)", part.name))
+        }
+    }
+    fn absent(&mut self, what: &str) -> io::Result<()> {
         self.line(&format!("NOT COMPARED: {what}"))
     }
     pub fn line(&mut self, line: &str) -> io::Result<()> {

@@ -22,12 +22,13 @@ impl Digest {
     }
 }
 
-/// The whole state after every field of a script, and every frame, as one number.
+/// The whole state after every field of a script, every frame and every trigger's answer, as one number.
 pub fn state_digest<E: Particles>(start: u64, script: &[u8]) -> u64 {
     let mut digest = Digest::default();
     let ended = run(start, script, |field, answer, engine: &E| {
         digest.word(field as u64);
         engine.visit(&mut |_, _, _, value| digest.word(value.code()));
+        digest.word(u64::from(answer.told()));
         if let Answer::Framed(frame) = answer {
             digest.word(Digest::text(&encode(frame)));
         }

@@ -5,6 +5,8 @@ use crate::runner::run;
 
 #[derive(Clone, Copy)]
 pub struct End {
+    /// The field's tag.
+    pub tag: u8,
     /// The bytes up to the end of the field, which are a script themselves.
     pub bytes: usize,
     /// Samples and fields so far: the port takes about as long for the one as for the other.
@@ -27,8 +29,10 @@ pub fn ends(start: u64, script: &[u8]) -> Vec<End> {
         let Ok((_, next)) = read(rest, at == 0) else {
             unreachable!("the run has read this field")
         };
+        let tag = rest[0];
         rest = next;
         End {
+            tag,
             bytes: script.len() - next.len(),
             steps,
         }

@@ -13,6 +13,7 @@ mod exact;
 mod field;
 mod gen;
 mod late;
+mod left;
 mod lent;
 #[cfg(linked)]
 mod linked;
@@ -21,6 +22,7 @@ mod marked;
 mod mask;
 mod masks;
 mod ours;
+mod part;
 mod port;
 mod probes;
 mod reached;

@@ -10,9 +10,9 @@ extern "C" {
     fn rk_probe_listing(script: *const u8, length: usize, out: *mut u8, room: usize) -> usize;
 }
 
-#[cfg(stated)]
+#[cfg(left)]
 extern "C" {
-    fn rk_probe_states(script: *const u8, length: usize, out: *mut u8, room: usize) -> usize;
+    fn rk_probe_fields(script: *const u8, length: usize, out: *mut u8, room: usize) -> usize;
 }
 
 #[cfg(late_listed)]
@@ -26,9 +26,9 @@ extern "C" {
     ) -> usize;
 }
 
-#[cfg(late_stated)]
+#[cfg(late_left)]
 extern "C" {
-    fn rk_probe_states_from(
+    fn rk_probe_fields_from(
         start: u64,
         script: *const u8,
         length: usize,
@@ -40,9 +40,9 @@ extern "C" {
 /// Which of these the archives have.
 pub const ENTRY: bool = cfg!(entry);
 pub const LISTED: bool = cfg!(listed);
-pub const STATED: bool = cfg!(stated);
+pub const LEFT: bool = cfg!(left);
 pub const LATE_LISTED: bool = cfg!(late_listed);
-pub const LATE_STATED: bool = cfg!(late_stated);
+pub const LATE_LEFT: bool = cfg!(late_left);
 
 /// 01's entry: its answer and the lent bytes after it.
 #[cfg(entry)]
@@ -67,15 +67,16 @@ pub fn listing(_: &[u8], _: &mut [u8]) -> Option<usize> {
     None
 }
 
-/// The state after every field: 8 bytes a value, big-endian, in the order of `oracle state`.
-#[cfg(stated)]
-pub fn states(script: &[u8], out: &mut [u8]) -> Option<usize> {
+/// What every field leaves: the state, 8 bytes a value, big-endian, in the order of `oracle state`; the
+/// last accepted frame as the entry fills it; and a byte for a trigger's answer.
+#[cfg(left)]
+pub fn fields(script: &[u8], out: &mut [u8]) -> Option<usize> {
     let (at, length) = (script.as_ptr(), script.len());
-    Some(unsafe { rk_probe_states(at, length, out.as_mut_ptr(), out.len()) })
+    Some(unsafe { rk_probe_fields(at, length, out.as_mut_ptr(), out.len()) })
 }
 
-#[cfg(not(stated))]
-pub fn states(_: &[u8], _: &mut [u8]) -> Option<usize> {
+#[cfg(not(left))]
+pub fn fields(_: &[u8], _: &mut [u8]) -> Option<usize> {
     None
 }
 
@@ -91,14 +92,14 @@ pub fn listing_from(_: u64, _: &[u8], _: &mut [u8]) -> Option<usize> {
     None
 }
 
-/// The states on an engine that has counted `start` samples and is new otherwise.
-#[cfg(late_stated)]
-pub fn states_from(start: u64, script: &[u8], out: &mut [u8]) -> Option<usize> {
+/// The same on an engine that has counted `start` samples and is new otherwise.
+#[cfg(late_left)]
+pub fn fields_from(start: u64, script: &[u8], out: &mut [u8]) -> Option<usize> {
     let (at, length) = (script.as_ptr(), script.len());
-    Some(unsafe { rk_probe_states_from(start, at, length, out.as_mut_ptr(), out.len()) })
+    Some(unsafe { rk_probe_fields_from(start, at, length, out.as_mut_ptr(), out.len()) })
 }
 
-#[cfg(not(late_stated))]
-pub fn states_from(_: u64, _: &[u8], _: &mut [u8]) -> Option<usize> {
+#[cfg(not(late_left))]
+pub fn fields_from(_: u64, _: &[u8], _: &mut [u8]) -> Option<usize> {
     None
 }

@@ -12,6 +12,18 @@ pub enum Answer {
     Framed(Box<Frame>),
 }
 
+impl Answer {
+    /// A trigger's answer by number; 0 where it is refused, and for any other call.
+    pub fn told(&self) -> u8 {
+        match self {
+            Answer::Born => 1,
+            Answer::NotEligible => 2,
+            Answer::Dropped => 3,
+            Answer::Taken | Answer::Refused(_) | Answer::Framed(_) => 0,
+        }
+    }
+}
+
 /// The script stops at field `field` with 01's number `number`.
 pub struct Bad {
     pub field: usize,
