@@ -12,12 +12,12 @@ pub struct Arguments {
 }
 
 impl Arguments {
-    pub fn new(name: &str, edges: Vec<Vec<u64>>) -> Self {
+    pub fn new(base: u64, name: &str, edges: Vec<Vec<u64>>) -> Self {
         // Where the combinations alone would be more than are compared, edges are drawn instead.
         let all = edges.iter().map(|e| e.len() as u64).product();
         Arguments {
             edges,
-            draws: Draws::new(0, name),
+            draws: Draws::new(base, name),
             at: 0,
             combinations: if all < ARGUMENTS { all } else { 0 },
         }

@@ -1,6 +1,7 @@
-//! The comparison: every case that can be compared today, one line a part, and at the end how many
-//! cases there were and how many differ.
+//! The comparison, one line a part, and at the end how many cases there were and how many differ. A
+//! part that can't be compared, or has no case, is named, and the comparison fails.
 use crate::arguments::{Arguments, ARGUMENTS};
+use crate::draws::mixed;
 use crate::part::Part;
 use crate::probes::{Probe, PROBED, PROBES};
 use crate::{elementary, late, lent, marked, masks, ours, reached, scripts};
@@ -12,16 +13,21 @@ const SHOWN: usize = 3;
 /// Mask calls on which the reading is held against the original.
 const MASKS: usize = 2_000;
 
-/// What was compared so far. A check of the oracle itself is no case of the port's.
+/// What was compared so far, and how many parts were not. A check of the oracle itself is no case of
+/// the port's.
 pub struct Sum<'a, W: Write> {
     out: &'a mut W,
     cases: u64,
     differ: u64,
     unsound: u64,
+    absent: u64,
 }
 
 impl<W: Write> Sum<'_, W> {
     fn part(&mut self, name: &str, cases: u64, differing: &[String]) -> io::Result<()> {
+        if cases == 0 {
+            return self.absent(&format!("{name} (no case)"));
+        }
         self.cases += cases;
         self.differ += differing.len() as u64;
         let found = differing.len();
@@ -44,6 +50,7 @@ impl<W: Write> Sum<'_, W> {
         }
     }
     fn absent(&mut self, what: &str) -> io::Result<()> {
+        self.absent += 1;
         self.line(&format!("NOT COMPARED: {what}"))
     }
     pub fn line(&mut self, line: &str) -> io::Result<()> {
@@ -59,26 +66,33 @@ impl<W: Write> Sum<'_, W> {
 }
 
 /// Compares with `count` scripts, each as far as a run has at most `limit` steps, and answers whether
-/// nothing differs.
-pub fn compare(count: u64, limit: u64, out: &mut impl Write) -> io::Result<bool> {
+/// all was compared and nothing differs. Another base gives other seeds throughout: it is mixed, so
+/// that those of bases side by side lie apart, and 0 stays 0.
+pub fn compare(count: u64, base: u64, limit: u64, out: &mut impl Write) -> io::Result<bool> {
+    let base = mixed(base);
     let mut sum = Sum {
         out,
         cases: 0,
         differ: 0,
         unsound: 0,
+        absent: 0,
     };
     let claims = marked::marked();
     let failed: Vec<String> = claims.iter().filter(|c| !c.1).map(|c| c.0.into()).collect();
     sum.own("what 01 states outright", claims.len(), &failed)?;
-    let (_, differ) = masks::mask_lines(1, MASKS);
+    let (_, differ) = masks::mask_lines(base.wrapping_add(1), MASKS);
     let differ = vec!["the original's own gains".to_string(); differ];
     sum.own("the mask where 01 follows the Rust", MASKS, &differ)?;
     let checks = 2 * late::CHECKS as usize;
-    sum.own("late starts and skips", checks, &late::failing())?;
+    sum.own("late starts and skips", checks, &late::failing(base))?;
     let numbers = reached::NUMBERS.len();
-    sum.own("refusals that scripts meet", numbers, &reached::missing())?;
+    sum.own(
+        "refusals that scripts meet",
+        numbers,
+        &reached::missing(base),
+    )?;
     if ours::LINKED {
-        for check in elementary::checks() {
+        for check in elementary::checks(base) {
             sum.part(&check.name, check.cases, &check.failed)?;
         }
     } else {
@@ -86,29 +100,37 @@ pub fn compare(count: u64, limit: u64, out: &mut impl Write) -> io::Result<bool>
     }
     if PROBED {
         for probe in PROBES {
-            sum.part(&format!("probe {}", probe.name), ARGUMENTS, &probed(probe))?;
+            sum.part(
+                &format!("probe {}", probe.name),
+                ARGUMENTS,
+                &probed(base, probe),
+            )?;
         }
-        let (calls, differ) = lent::gains_differ();
+        let (calls, differ) = lent::gains_differ(base);
         sum.part("mask calls", calls, &differ)?;
-        sum.part("bin tables", lent::TABLES, &lent::tables_differ())?;
+        sum.part("bin tables", lent::TABLES, &lent::tables_differ(base))?;
         sum.part(
             "attenuations",
             lent::ATTENUATIONS,
-            &lent::attenuations_differ(),
+            &lent::attenuations_differ(base),
         )?;
     } else {
-        sum.absent("the float helpers (no libprobe.a)")?;
+        sum.absent("the single layers (no libprobe.a)")?;
     }
-    scripts::compare(count, limit, &mut sum)?;
+    scripts::compare(count, base, limit, &mut sum)?;
     let (cases, differ) = (sum.cases, sum.differ);
-    sum.line(&format!("{cases} cases, {differ} differ"))?;
-    Ok(sum.differ == 0 && sum.unsound == 0)
+    let left_out = match sum.absent {
+        0 => String::new(),
+        parts => format!(", {parts} parts NOT COMPARED"),
+    };
+    sum.line(&format!("{cases} cases, {differ} differ{left_out}"))?;
+    Ok(sum.differ == 0 && sum.unsound == 0 && sum.absent == 0)
 }
 
 /// The arguments at which the port differs from the Rust.
-fn probed(probe: &Probe) -> Vec<String> {
-    let arguments = Arguments::new(probe.name, (probe.edges)());
-    let arguments = (probe.exact)().into_iter().chain(arguments);
+fn probed(base: u64, probe: &Probe) -> Vec<String> {
+    let arguments = Arguments::new(base, probe.name, (probe.edges)());
+    let arguments = (probe.exact)(base).into_iter().chain(arguments);
     let compared = arguments.filter_map(|words| Some(((probe.rust)(&words)?, words)));
     let differs = |(want, words): (u64, Vec<u64>)| {
         let got = (probe.port)(&words);

@@ -65,22 +65,22 @@ pub struct Check {
     pub failed: Vec<String>,
 }
 
-pub fn checks() -> Vec<Check> {
-    let mut all: Vec<Check> = FUNCTIONS.iter().map(function_near).collect();
-    all.push(exp64_near());
-    all.push(sqrt_equal());
+pub fn checks(base: u64) -> Vec<Check> {
+    let mut all: Vec<Check> = FUNCTIONS.iter().map(|f| function_near(base, f)).collect();
+    all.push(exp64_near(base));
+    all.push(sqrt_equal(base));
     all.push(exact());
     all
 }
 
-fn singles(name: &str) -> impl Iterator<Item = f32> {
-    let arguments = Arguments::new(name, vec![f32::edges()]);
+fn singles(base: u64, name: &str) -> impl Iterator<Item = f32> {
+    let arguments = Arguments::new(base, name, vec![f32::edges()]);
     arguments
         .take(ARGUMENTS as usize)
         .map(|words| f32::of(words[0]))
 }
 
-fn function_near(f: &Function) -> Check {
+fn function_near(base: u64, f: &Function) -> Check {
     let fails = |x: f32| {
         let got = (f.ours)(x);
         (!near(got, (f.truth)(x.into())))
@@ -89,11 +89,11 @@ fn function_near(f: &Function) -> Check {
     Check {
         name: format!("{} near the true values", f.name),
         cases: ARGUMENTS,
-        failed: singles(f.name).filter_map(fails).collect(),
+        failed: singles(base, f.name).filter_map(fails).collect(),
     }
 }
 
-fn sqrt_equal() -> Check {
+fn sqrt_equal(base: u64) -> Check {
     let fails = |x: f32| {
         let got = bits32(ours::sqrt(x));
         (got != bits32(x.sqrt())).then(|| format!("{:08x} gives {got:08x}", bits32(x)))
@@ -101,14 +101,14 @@ fn sqrt_equal() -> Check {
     Check {
         name: "sqrt equal to Rust's".into(),
         cases: ARGUMENTS,
-        failed: singles("sqrt").filter_map(fails).collect(),
+        failed: singles(base, "sqrt").filter_map(fails).collect(),
     }
 }
 
-fn exp64_near() -> Check {
+fn exp64_near(base: u64) -> Check {
     let mut failed = Vec::new();
     let mut cases = 0;
-    for words in Arguments::new("exp64", vec![f64::edges()]).take(ARGUMENTS as usize) {
+    for words in Arguments::new(base, "exp64", vec![f64::edges()]).take(ARGUMENTS as usize) {
         // Whole random bits are mostly far out; what the engine asks lies in -1 to 0.
         for x in [
             f64::of(words[0]),

@@ -11,8 +11,8 @@ fn word(x: f32) -> u64 {
 }
 
 /// Index, root, top and direction: targets that meet a sum of weights.
-pub fn registers() -> Vec<Vec<u64>> {
-    let mut d = Draws::new(0, "registers");
+pub fn registers(base: u64) -> Vec<Vec<u64>> {
+    let mut d = Draws::new(base, "registers");
     let mut list: Vec<Vec<u64>> = register::ties(&mut d, 2_000)
         .iter()
         .map(|tie| vec![tie.index, word(tie.root_hz), word(20_000.0), 0])
@@ -31,8 +31,8 @@ pub fn registers() -> Vec<Vec<u64>> {
 
 /// Index, seed of the weights, limit and ratio: counts drawn at 0.80 and 0.97 and beside them, and
 /// ratios that are harmonics.
-pub fn partials() -> Vec<Vec<u64>> {
-    let mut d = Draws::new(0, "partials");
+pub fn partials(base: u64) -> Vec<Vec<u64>> {
+    let mut d = Draws::new(base, "partials");
     let mut list = Vec::new();
     for n in 0..6_000_u64 {
         let limit = [0.80, 0.97][n as usize % 2];
@@ -45,8 +45,8 @@ pub fn partials() -> Vec<Vec<u64>> {
 
 /// Centre, radius, amplitude and log: places inside a window, at its ends and beside them, and of a
 /// radius of 0 and below.
-pub fn windows() -> Vec<Vec<u64>> {
-    let mut d = Draws::new(0, "windows");
+pub fn windows(base: u64) -> Vec<Vec<u64>> {
+    let mut d = Draws::new(base, "windows");
     let mut list = Vec::new();
     for n in 0..200_000_u64 {
         let (centre, radius) = (d.between(3.0, 15.0), d.between(-0.1, 4.0));

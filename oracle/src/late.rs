@@ -43,8 +43,8 @@ fn ends(script: &[u8]) -> Vec<u64> {
 
 /// What fails of: a late start is a state that a script from 0 leaves, and a skip changes what the
 /// steps in its place would.
-pub fn failing() -> Vec<String> {
-    let mut d = Draws::new(0, "late starts");
+pub fn failing(base: u64) -> Vec<String> {
+    let mut d = Draws::new(base, "late starts");
     let mut failing = Vec::new();
     for n in 0..CHECKS {
         let (rate, count) = (rate(&mut d), SAMPLE_LIMIT - d.below(1 << 33));
@@ -53,7 +53,8 @@ pub fn failing() -> Vec<String> {
         }
         // At the highest rate an offset settles within some 700,000 samples.
         let samples = d.among(1_000_000, 1_100_000);
-        let (mut stepped, mut skipped) = (odd_offset(n, rate), odd_offset(n, rate));
+        let seed = base.wrapping_add(n);
+        let (mut stepped, mut skipped) = (odd_offset(seed, rate), odd_offset(seed, rate));
         Particles::advance(&mut stepped, samples as usize);
         advance(&mut skipped, samples);
         if all(&stepped) != all(&skipped) {
@@ -81,8 +82,8 @@ fn waited(rate: f32, count: u64) -> Script {
 }
 
 /// An engine whose clock stands, with its offset on the way to another phase.
-fn odd_offset(n: u64, rate: f32) -> Engine {
-    let mut d = Draws::new(n, "offsets");
+fn odd_offset(seed: u64, rate: f32) -> Engine {
+    let mut d = Draws::new(seed, "offsets");
     let mut engine: Engine = Particles::new(rate);
     for _ in 0..2 {
         let settings = Settings {

@@ -99,7 +99,7 @@ fn differs(name: &str, at: u64, want: &[Vec<u32>], got: &[Vec<u32>]) -> Option<S
 
 /// Lengths 0, 1, 2 and 8,193; logs equal, unsorted, not finite, and a bin 0 above all others; each
 /// with the depths and activities at which a rule begins, and a window of every odd kind.
-fn edges() -> Vec<Case> {
+fn edges(base: u64) -> Vec<Case> {
     let table = open::bin_table(48_000.0, 16_384);
     let logs = [
         vec![],
@@ -114,7 +114,7 @@ fn edges() -> Vec<Case> {
         vec![0.0, f32::NEG_INFINITY, 9.0, 10.0],
         table,
     ];
-    let mut d = Draws::new(0, "edges of the mask");
+    let mut d = Draws::new(base, "edges of the mask");
     let mut cases = Vec::new();
     for logs in logs {
         for depth_db in [0.0, -0.0, f32::NAN, f32::INFINITY, 1e-45, 24.0, 60.0, 61.0] {
@@ -139,9 +139,9 @@ fn edges() -> Vec<Case> {
 }
 
 /// Mask calls at which the port differs, and how many there were.
-pub fn gains_differ() -> (u64, Vec<String>) {
-    let mut d = Draws::new(0, "gains");
-    let mut cases = edges();
+pub fn gains_differ(base: u64) -> (u64, Vec<String>) {
+    let mut d = Draws::new(base, "gains");
+    let mut cases = edges(base);
     cases.extend((0..GAINS).map(|_| case(&mut d)));
     let found = cases.iter().enumerate().filter_map(|(at, c)| {
         let (mut scratch, mut output) = (c.scratch.clone(), c.output.clone());
@@ -156,8 +156,8 @@ pub fn gains_differ() -> (u64, Vec<String>) {
 }
 
 /// Bin tables at which the port differs.
-pub fn tables_differ() -> Vec<String> {
-    let mut d = Draws::new(0, "tables");
+pub fn tables_differ(base: u64) -> Vec<String> {
+    let mut d = Draws::new(base, "tables");
     let found = (0..TABLES).filter_map(|at| {
         let (rate, size, length) = bins_case(&mut d);
         let (mut table, mut ours) = (vec![9.25; length], vec![9.25; length]);
@@ -170,8 +170,8 @@ pub fn tables_differ() -> Vec<String> {
 }
 
 /// Attenuations at which the port differs.
-pub fn attenuations_differ() -> Vec<String> {
-    let mut d = Draws::new(0, "attenuations");
+pub fn attenuations_differ(base: u64) -> Vec<String> {
+    let mut d = Draws::new(base, "attenuations");
     let found = (0..ATTENUATIONS).filter_map(|at| {
         let frame = frame(&mut d, &[]);
         let (hz, depth) = match d.below(3) {

@@ -62,8 +62,9 @@ oracle state [HOW] < script       every field of the state by name, after every 
 oracle gen SEED KIND > script     a script
 oracle start SEED KIND            the late start of that script
 oracle kinds                      the kinds of scripts
-oracle compare N STEPS            compares the port with the original on N scripts, each as far as a run has at
-                                  most so many samples and fields; status 1 on a difference
+oracle compare N BASE STEPS       compares the port with the original on N scripts, each as far as a run has at
+                                  most so many samples and fields; BASE chooses all seeds; status 1 on a
+                                  difference, or where something can't be compared
 oracle calls SEED N               N rounds of single functions of the original, arguments and answers
 oracle masks SEED N               N mask calls, bin tables and attenuations, as short numbers
 oracle stored FOLDER < list       the scripts of a list with their answers; examples stand in FOLDER
@@ -133,11 +134,12 @@ fn command(words: &[&str]) -> io::Result<u8> {
                 writeln!(out, "{:12} {}", kind.name, kind.what)?;
             }
         }
-        ["compare", count, steps] => {
-            let (Ok(count), Ok(steps)) = (count.parse(), steps.parse()) else {
+        ["compare", count, base, steps] => {
+            let (Ok(count), Ok(base), Ok(steps)) = (count.parse(), base.parse(), steps.parse())
+            else {
                 return usage();
             };
-            return Ok(u8::from(!compare::compare(count, steps, &mut out)?));
+            return Ok(u8::from(!compare::compare(count, base, steps, &mut out)?));
         }
         ["calls", seed, rounds] => {
             let (Ok(seed), Ok(rounds)) = (seed.parse(), rounds.parse()) else {

@@ -12,8 +12,8 @@ use crate::ours::Choose;
 pub struct Probe {
     pub name: &'static str,
     pub edges: fn() -> Vec<Vec<u64>>,
-    /// Whole lists of arguments that come before all others.
-    pub exact: fn() -> Vec<Vec<u64>>,
+    /// Whole lists of arguments that come before all others, by the base of the seeds.
+    pub exact: fn(u64) -> Vec<Vec<u64>>,
     pub rust: fn(&[u64]) -> Option<u64>,
     pub port: fn(&[u64]) -> u64,
 }
@@ -71,9 +71,9 @@ macro_rules! probes {
         pub const PROBES: &[Probe] = &[$(Probe {
             name: stringify!($name),
             edges: || vec![$(<$t as Bits>::edges()),*],
-            exact: || {
-                let lists: &[fn() -> Vec<Vec<u64>>] = &[$($exact)?];
-                lists.iter().flat_map(|list| list()).collect()
+            exact: |base| {
+                let lists: &[fn(u64) -> Vec<Vec<u64>>] = &[$($exact)?];
+                lists.iter().flat_map(|list| list(base)).collect()
             },
             rust: |words| {
                 let mut words = words.iter();

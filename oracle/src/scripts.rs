@@ -84,8 +84,9 @@ struct Ends {
     fields: Vec<End>,
 }
 
-/// Compares `count` scripts, each as far as a run has at most `limit` steps.
-pub fn compare<W: Write>(count: u64, limit: u64, sum: &mut Sum<W>) -> io::Result<()> {
+/// Compares `count` scripts, each as far as a run has at most `limit` steps. The seeds are those from
+/// `base` on.
+pub fn compare<W: Write>(count: u64, base: u64, limit: u64, sum: &mut Sum<W>) -> io::Result<()> {
     let mut entry = Part::new("the script entry rk_script".into(), port::ENTRY);
     let mut new = Started::new(
         Part::new("the listing rk_probe_listing".into(), port::LISTED),
@@ -101,7 +102,7 @@ pub fn compare<W: Write>(count: u64, limit: u64, sum: &mut Sum<W>) -> io::Result
     let mut same_plain = 0;
     for n in 0..count {
         let kind = &KINDS[(n % KINDS.len() as u64) as usize];
-        let seed = n / KINDS.len() as u64;
+        let seed = base.wrapping_add(n / KINDS.len() as u64);
         let bytes = script(seed, kind);
         let name = format!("gen {seed} {}", kind.name);
         if n < PLAIN {
@@ -112,7 +113,7 @@ pub fn compare<W: Write>(count: u64, limit: u64, sum: &mut Sum<W>) -> io::Result
         // A shorter script shows a frame in the middle.
         let some = match found.fields.as_slice() {
             [] => 0,
-            fields => Draws::new(n, "ends").pick(fields).bytes,
+            fields => Draws::new(base.wrapping_add(n), "ends").pick(fields).bytes,
         };
         for end in [found.whole, some] {
             for room in ROOMS {
