@@ -13,7 +13,6 @@ fn main() {
         println!("cargo:rerun-if-changed={folder}/lib{archive}.a");
         println!("cargo:rustc-link-lib=static={archive}");
     }
-    println!("cargo:rustc-link-lib=m");
     original();
 }
 

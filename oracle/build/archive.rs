@@ -39,15 +39,10 @@ pub fn link(here: &Path) {
         let ended = [symbol.as_bytes(), &[0]].concat();
         fs::read(path).is_ok_and(|b| b.windows(ended.len()).any(|w| w == ended))
     };
-    let mut found = false;
     for (archive, symbol, library, name) in FOUND {
         if has(archive, symbol) {
             println!("cargo:rustc-cfg={name}");
             println!("cargo:rustc-link-lib=static={library}");
-            found = true;
         }
-    }
-    if found {
-        println!("cargo:rustc-link-lib=m");
     }
 }
