@@ -1,1 +1,1 @@
-// Theorems about the clock's floats: how far phase and offset can go in 2^40 samples. No code.
+// Theorems about samples: how far phase, offset and the Cloud's opportunity can go in 2^40 of them. No code.

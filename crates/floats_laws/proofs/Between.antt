@@ -3,7 +3,7 @@ use Prim.Native.Nat.{ℕ, _+_, _*_, _≤_, _<_}
 use native.Mathlib.Nat.{le-trans, le-of-eq, lt-of-lt-of-le, mul-right-comm, mul-pos, mul-le-mul-right, le-of-mul-le-mul-right, eq-or-lt-of-le}
 use native.Mathlib.Omega.{arith}
 use mathlib.Core.Path.{_≡_, refl, sym, subst}
-use mathlib.Core.Logic.{inl, inr}
+use mathlib.Core.Logic.{_⊎_, inl, inr}
 use mathlib.Core.Bool.{Bool, true, false, _&&_, _||_}
 use lib.IntN.{ℤ}
 use lib.Dec.{T, ltb, lt→ltb, eqb, eqb-refl, eqb→eq}
@@ -26,36 +26,32 @@ under-between (inf false) n g h k = absurd k
 under-between (fin false m e) n g h k = le-of (m * up e * down g) (n * up g * down e) k
 under-between (fin true m e) n g h k = omega (arith, le→signed true n g true m e h)
 
--- and back: where the bound is not 0
-or-left : (a b : Bool) → T a → T (a || b)
+-- one of two tests
+pub or-left : (a b : Bool) → T a → T (a || b)
 or-left true b t = tt
 or-left false b t = absurd t
 
+pub or-right : (a b : Bool) → T b → T (a || b)
+or-right true b t = tt
+or-right false b t = t
+
+-- `le` of two numbers of one sign, as `lt` and `eq` have it: a at most b, or b at most a
 or-same : (a b : ℕ) → a ≤ b → T (ltb a b || (eqb a b && true))
-or-same a b h = elim (eq-or-lt-of-le h) [ inl p ↦ right (ltb a b) (subst (λ (x : ℕ). T (eqb a x && true)) p (and-i (eqb a a) true (eqb-refl a) tt)) | inr q ↦ or-left (ltb a b) _ (lt→ltb a b q) ]
-  where
-    right : (c : Bool) → T (eqb a b && true) → T (c || (eqb a b && true))
-    right true t = tt
-    right false t = t
+or-same a b h = elim (eq-or-lt-of-le h) [ inl p ↦ or-right (ltb a b) _ (subst (λ (x : ℕ). T (eqb a x && true)) p (and-i (eqb a a) true (eqb-refl a) tt)) | inr q ↦ or-left (ltb a b) _ (lt→ltb a b q) ]
 
 or-swapped : (a b : ℕ) → b ≤ a → T (ltb b a || (eqb a b && true))
-or-swapped a b h = elim (eq-or-lt-of-le h) [ inl p ↦ right (ltb b a) (subst (λ (x : ℕ). T (eqb a x && true)) (sym p) (and-i (eqb a a) true (eqb-refl a) tt)) | inr q ↦ or-left (ltb b a) _ (lt→ltb b a q) ]
-  where
-    right : (c : Bool) → T (eqb a b && true) → T (c || (eqb a b && true))
-    right true t = tt
-    right false t = t
+or-swapped a b h = elim (eq-or-lt-of-le h) [ inl p ↦ or-right (ltb b a) _ (subst (λ (x : ℕ). T (eqb a x && true)) (sym p) (and-i (eqb a a) true (eqb-refl a) tt)) | inr q ↦ or-left (ltb b a) _ (lt→ltb b a q) ]
 
-more : (a b : ℕ) → 0 < b → 0 < a + b
-more a b h = omega arith
-
-more-left : (a b : ℕ) → 0 < a → 0 < a + b
-more-left a b h = omega arith
+-- and back: where the bound is not 0
+some : (a b : ℕ) → (0 < a) ⊎ (0 < b) → 0 < a + b
+some a b (inl h) = omega arith
+some a b (inr h) = omega arith
 
 pub under-most : (x : Float) (n : ℕ) (g : ℤ) → 0 < n * up g → Under x (n * up g) (down g) → T (le x (fin false n g))
 unfolding le lt eq
 under-most nan n g N h = absurd h
 under-most (inf s) n g N h = absurd h
-under-most (fin true m e) n g N h = or-left (lt (fin true m e) (fin false n g)) (eq (fin true m e) (fin false n g)) (lt→ltb 0 (m * up e * down g + n * up g * down e) (more (m * up e * down g) (n * up g * down e) (mul-pos N (down-pos e))))
+under-most (fin true m e) n g N h = or-left (lt (fin true m e) (fin false n g)) (eq (fin true m e) (fin false n g)) (lt→ltb 0 (m * up e * down g + n * up g * down e) (some (m * up e * down g) (n * up g * down e) (inr (mul-pos N (down-pos e)))))
 under-most (fin false m e) n g N h = or-same (m * up e * down g) (n * up g * down e) h
 
 pub under-least : (x : Float) (n : ℕ) (g : ℤ) → 0 < n * up g → Under x (n * up g) (down g) → T (le (fin true n g) x)
@@ -63,7 +59,7 @@ unfolding le lt eq
 under-least nan n g N h = absurd h
 under-least (inf s) n g N h = absurd h
 under-least (fin true m e) n g N h = or-swapped (n * up g * down e) (m * up e * down g) h
-under-least (fin false m e) n g N h = or-left (lt (fin true n g) (fin false m e)) (eq (fin true n g) (fin false m e)) (lt→ltb 0 (n * up g * down e + m * up e * down g) (more-left (n * up g * down e) (m * up e * down g) (mul-pos N (down-pos e))))
+under-least (fin false m e) n g N h = or-left (lt (fin true n g) (fin false m e)) (eq (fin true n g) (fin false m e)) (lt→ltb 0 (n * up g * down e + m * up e * down g) (some (n * up g * down e) (m * up e * down g) (inl (mul-pos N (down-pos e)))))
 
 -- ---- at least a number
 pub above-of : (x y : Float) (b : ℕ) → 0 < b → Above x b → T (le x y) → T (finite y) → Above y b

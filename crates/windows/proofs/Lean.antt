@@ -3,7 +3,7 @@ use Prim.Native.Nat.{ℕ, zero, suc, _+_, _*_, _^_, _<_}
 use native.Mathlib.Nat.{zero-mul, mul-one, mul-pos, zero-lt-suc}
 use native.Mathlib.Omega.{arith}
 use mathlib.Core.Path.{_≡_, refl, sym, ap, _∙_, subst}
-use mathlib.Core.Bool.{Bool, true, false, not, cond, _&&_, _||_}
+use mathlib.Core.Bool.{Bool, true, false, not, cond, _&&_}
 use lib.IntN.{ℤ}
 use lib.Dec.{T, eqb, ltb, lt→ltb}
 use lib.Ieee.{Float, nan, inf, fin, Format, prec, emax, low, binary32, ofBits, up, down, round, add, sub, div, neg, lt, le, eq, fits}
@@ -11,6 +11,7 @@ use lib.Ieee as Ieee
 use lib.Ieee.Fits.{sub-fits, div-fits, and-i, eq→eqb, up-pos, round-is}
 use lib.Ieee.Order.{kept, drop}
 use Rattle.choices.specs.Choose.{abs, clamp}
+use Rattle.floats_laws.proofs.Between.{or-left, or-right}
 use Rattle.floats_laws.proofs.Ends.{not-above, from-zero}
 use Rattle.floats_laws.proofs.Gap.{one-number}
 use Rattle.floats_laws.proofs.Rising.{nought, sub-falls}
@@ -18,14 +19,6 @@ use Rattle.floats_laws.proofs.Units.{one as i, one-fits, zero-fits}
 use Rattle.windows.specs.declared.Window.{Window}
 use Rattle.floats.specs.Names.{nil, one}
 use Rattle.windows.specs.Opening.{cubic, taperOf, insideOf}
-
-or-left : (a b : Bool) → T a → T (a || b)
-or-left true b h = tt
-or-left false b h = absurd h
-
-or-right : (a b : Bool) → T b → T (a || b)
-or-right true b h = tt
-or-right false b h = h
 
 -- ---- 1 - q is at most 1 where q has no minus
 abbrev unsigned : Float → Bool
