@@ -38,7 +38,7 @@ mod measured {
         let whole = times(PASSES, &[before, after].concat());
         let (ours, theirs) = ((whole.0 - base.0) / count, (whole.1 - base.1) / count);
         println!(
-            "{name:34} {ours:10.1} ns, Rust {theirs:8.1} ns, ratio {:7.1}",
+            "{name:34} {ours:10.1} ns, Rust {theirs:8.1} ns, ratio {:7.2}",
             ours / theirs
         );
     }
@@ -69,9 +69,9 @@ mod measured {
     pub fn run(job: bool) {
         if job {
             let calls = [set(true, Shape::Sprinkle, 32.0), hops(3_300)].concat();
-            let (ours, theirs) = times(1, &calls);
+            let (ours, theirs) = times(3, &calls);
             println!(
-                "a job: 3,300 hops of {HOP} samples    {:.1} s, Rust {:.3} s, ratio {:.0}",
+                "a job: 3,300 hops of {HOP} samples    {:.3} s, Rust {:.3} s, ratio {:.2}",
                 ours / 1e9,
                 theirs / 1e9,
                 ours / theirs

@@ -1,1 +1,2 @@
 pub mod Birth
+pub mod Parts

@@ -1,21 +1,14 @@
 // One birth: its source, the attempt, the place.
 ghost use mathlib.Core.Path.{_≡_};
-ghost use Rattle.bearing.specs.Birth.{withLast, triedOne, voiceFor, newbornFor, admittedOf, isBarred, attemptedOf, chosenFor, bornOf};
-use pool::Particle;
+ghost use Rattle.bearing.specs.Birth.{triedOne, isBarred, bornOf};
+ghost use Rattle.bearing.specs.Parts.{voiceBy, chosenBy};
+use settings::Shape;
+use sources::Source;
 use state::Engine;
-use state::Next;
 use state::Tally;
 use voices::Voice;
 
 pub const MAX_BIRTH_ATTEMPTS: u64 = 64;
-
-fn with_last(next: Next, slot: usize) -> Next
-    ensures { λ r. ⌜ r ≡ withLast next slot ⌝ }
-{
-    let mut out = next;
-    out.last_source = slot;
-    out
-}
 
 fn try_one(tally: Tally) -> Tally
     ensures { λ r. ⌜ r ≡ triedOne tally ⌝ }
@@ -26,55 +19,21 @@ fn try_one(tally: Tally) -> Tally
     out
 }
 
-fn voice(engine: Engine, index: u64, slot: usize) -> Voice
-    ensures { λ r. ⌜ r ≡ voiceFor engine index slot ⌝ }
+fn voice(
+    sources: [Source; 256],
+    shape: Shape,
+    phase: f64,
+    sample_rate: f64,
+    index: u64,
+    slot: usize,
+) -> Voice
+    ensures { λ r. ⌜ r ≡ voiceBy sources shape phase «sample_rate» index slot ⌝ }
 {
     if slot < 256 {
-        let source = engine.sources[slot];
+        let source = sources[slot];
         return voices::source_voice(slot, source);
     }
-    let config = engine.config;
-    let shape = config.shape;
-    voices::free_voice(
-        shape,
-        index,
-        engine.clock.phase,
-        engine.prepared.sample_rate,
-    )
-}
-
-fn newborn(engine: Engine, index: u64, slot: usize) -> Particle
-    ensures { λ r. ⌜ r ≡ newbornFor engine index slot ⌝ }
-{
-    let voice = voice(engine, index, slot);
-    let config = engine.config;
-    let weights = engine.partial_weights;
-    births::newborn(
-        index,
-        voice,
-        config,
-        engine.prepared.sample_rate,
-        engine.clock.sample,
-        weights,
-    )
-}
-
-// The lowest free place is taken; where there is none, the birth is dropped.
-fn admit(engine: Engine, index: u64, slot: usize) -> Engine
-    ensures { λ r. ⌜ r ≡ admittedOf engine index slot ⌝ }
-{
-    let tally = engine.tally;
-    let particles = engine.particles;
-    let place = vacancies::free_place(particles);
-    let mut out = engine;
-    if place < 64 {
-        let p = newborn(engine, index, slot);
-        out.particles[place] = p;
-        out.tally = tallies::bear_one(tally, index, engine.clock.sample, p);
-        return out;
-    }
-    out.tally = tallies::drop_one(tally);
-    out
+    voices::free_voice(shape, index, phase, sample_rate)
 }
 
 // No source was found while notes are held.
@@ -88,45 +47,63 @@ fn barred(slot: usize, note_input_present: bool) -> bool
     }
 }
 
-fn attempt(engine: Engine, index: u64, slot: usize) -> Engine
-    ensures { λ r. ⌜ r ≡ attemptedOf engine index slot ⌝ }
-{
-    let tally = engine.tally;
-    let mut out = engine;
-    if tally.attempts == MAX_BIRTH_ATTEMPTS {
-        out.tally = tallies::drop_one(tally);
-        return out;
-    }
-    out.tally = try_one(tally);
-    if barred(slot, engine.next.note_input_present) {
-        return out;
-    }
-    admit(out, index, slot)
-}
-
 // A trigger's own slot, or one of the eligible sources by the draw.
-fn choose(engine: Engine, index: u64, own: usize) -> usize
-    ensures { λ r. ⌜ r ≡ chosenFor engine index own ⌝ }
+fn choose(sources: [Source; 256], last: usize, index: u64, own: usize) -> usize
+    ensures { λ r. ⌜ r ≡ chosenBy sources last index own ⌝ }
 {
     if own < 256 {
         return own;
     }
-    let sources = engine.sources;
-    choosing::choose(
-        sources,
-        engine.next.last_source,
-        draws::random(index, draws::SOURCE),
-    )
+    choosing::choose(sources, last, draws::random(index, draws::SOURCE))
 }
 
 // The choice is stored whatever follows: a birth that is turned away leaves the sequence of sources as
-// it would have been.
+// it would have been. The lowest free place is taken; where there is none, the birth is dropped. The
+// places are changed apart from the engine and stored once, so that nothing else of it is moved.
 pub fn birth(engine: Engine, index: u64, own: usize) -> Engine
     ensures { λ r. ⌜ r ≡ bornOf engine index own ⌝ }
 {
-    let slot = choose(engine, index, own);
-    let next = engine.next;
+    let sources = engine.sources;
+    let tally = engine.tally;
+    let slot = choose(sources, engine.next.last_source, index, own);
     let mut out = engine;
-    out.next = with_last(next, slot);
-    attempt(out, index, slot)
+    out.next.last_source = slot;
+    if tally.attempts == MAX_BIRTH_ATTEMPTS {
+        out.tally = tallies::drop_one(tally);
+        return out;
+    }
+    let tried = try_one(tally);
+    if barred(slot, engine.next.note_input_present) {
+        out.tally = tried;
+        return out;
+    }
+    let mut particles = engine.particles;
+    let place = vacancies::free_place(particles);
+    if place < 64 {
+        let config = engine.config;
+        let shape = config.shape;
+        let weights = engine.partial_weights;
+        let voice = voice(
+            sources,
+            shape,
+            engine.clock.phase,
+            engine.prepared.sample_rate,
+            index,
+            slot,
+        );
+        let p = births::newborn(
+            index,
+            voice,
+            config,
+            engine.prepared.sample_rate,
+            engine.clock.sample,
+            weights,
+        );
+        particles[place] = p;
+        out.particles = particles;
+        out.tally = tallies::bear_one(tried, index, engine.clock.sample, p);
+        return out;
+    }
+    out.tally = tallies::drop_one(tried);
+    out
 }

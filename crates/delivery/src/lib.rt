@@ -2,4 +2,5 @@
 mod sample;
 
 pub use bearing::birth;
+pub use sample::glide;
 pub use sample::step;

@@ -1,7 +1,7 @@
 // One sample: it delivers its births, then moves the phase, the offset and the count.
 ghost use mathlib.Core.Path.{_≡_};
 ghost use Prim.Native.Nat.{_<_};
-ghost use Rattle.delivery.specs.Sample.{triedOf, laneOf, lanesOf, opportunityAfter, cloudOf, deliveredOf, glidedOf, tickedOf, steppedOf};
+ghost use Rattle.delivery.specs.Sample.{triedOf, lanesOf, opportunityAfter, cloudOf, deliveredOf, glidedOf, tickedOf, steppedOf};
 use settings::Shape;
 use state::Clock;
 use state::Engine;
@@ -12,14 +12,15 @@ fn try_lane(engine: Engine, lane: usize, reference: f64) -> Engine
     ensures { λ r. ⌜ r ≡ triedOf engine lane reference ⌝ }
 {
     let config = engine.config;
-    let streams = engine.streams;
+    let mut streams = engine.streams;
     let stream = streams[lane];
     if reference < stream.next {
         return engine;
     }
     let moved = timing::move_on(stream, lane, reference, config.sync);
+    streams[lane] = moved;
     let mut out = engine;
-    out.streams[lane] = moved;
+    out.streams = streams;
     if stream.emit {
         if config.enabled {
             return bearing::birth(
@@ -32,21 +33,22 @@ fn try_lane(engine: Engine, lane: usize, reference: f64) -> Engine
     out
 }
 
-// A pair may start together; no backlog is kept.
-fn deliver_lane(engine: Engine, lane: usize, reference: f64) -> Engine
-    requires { ⌜ lane < 3 ⌝ }
-    ensures { λ r. ⌜ r ≡ laneOf engine lane reference ⌝ }
-{
-    let once = try_lane(engine, lane, reference);
-    try_lane(once, lane, reference)
-}
-
+// Each lane twice: a pair may start together; no backlog is kept. A lane that is not due is passed over
+// here, so that the engine stays where it is.
 fn lanes(engine: Engine, reference: f64) -> Engine
     ensures { λ r. ⌜ r ≡ lanesOf engine reference ⌝ }
 {
-    let first = deliver_lane(engine, 0, reference);
-    let second = deliver_lane(first, 1, reference);
-    deliver_lane(second, 2, reference)
+    let mut out = engine;
+    let mut k: usize = 0;
+    while k < 6 {
+        let streams = out.streams;
+        let stream = streams[k / 2];
+        if reference < stream.next {} else {
+            out = try_lane(out, k / 2, reference);
+        }
+        k += 1;
+    }
+    out
 }
 
 fn opportunity_after(opportunity: u64, reference: f64) -> u64
@@ -84,16 +86,20 @@ fn deliver(engine: Engine) -> Engine
     let shape = config.shape;
     let reference = engine.clock.phase + engine.clock.phase_offset;
     if config.scheduled {
-        return match shape {
-            Shape::Sprinkle => lanes(engine, reference),
-            Shape::Cloud => cloud(engine, reference),
-        };
+        match shape {
+            Shape::Sprinkle => {
+                return lanes(engine, reference);
+            }
+            Shape::Cloud => {
+                return cloud(engine, reference);
+            }
+        }
     }
     engine
 }
 
 // The offset glides to the setting by the shorter way.
-fn glide(phase_offset: f64, phase: f32, alpha: f64) -> f64
+pub fn glide(phase_offset: f64, phase: f32, alpha: f64) -> f64
     ensures { λ r. ⌜ r ≡ glidedOf «phase_offset» phase alpha ⌝ }
 {
     let to = floats::f32_to_f64(phase) - phase_offset + 0.5;

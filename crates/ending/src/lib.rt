@@ -27,12 +27,17 @@ fn last_field(run: Run, n: u64, at: usize, script: &[u8]) -> Turn
     let mut at = at;
     loop {
         let turn = one_turn(run, n, &script[at..]);
+        let line = turn.line;
         let k = turn.taken;
-        if k == 0 {
-            return turn;
-        }
         let next = turn.run;
         run = next;
+        if k == 0 {
+            return Turn {
+                run,
+                line,
+                taken: k,
+            };
+        }
         at = at + k;
         n = n + 1;
     }

@@ -1,4 +1,4 @@
-// `advance`: samples one after the other.
+// `advance`: up to the next start only the clock moves; a sample at which something is due is a whole one.
 ghost use mathlib.Core.Path.{_≡_};
 ghost use Rattle.engine.specs.Advance.{advancedOf};
 use refusals::Answer;
@@ -22,11 +22,24 @@ pub fn advance(engine: Engine, samples: u64) -> Done
         };
     }
     let mut out = engine;
-    for i in 0..samples {
+    let mut i: u64 = 0;
+    loop {
+        let config = out.config;
+        let streams = out.streams;
+        let clock = out.clock;
+        let starts = waiting::next_starts(config, streams, out.next.opportunity);
+        let tempo = waiting::tempo_of(config, out.prepared.sample_rate, out.prepared.phase_alpha);
+        let waited = waiting::wait(clock, starts, tempo, samples - i);
+        let moved = waited.clock;
+        out.clock = moved;
+        i = i + waited.count;
+        if i == samples {
+            return Done {
+                answer: Answer::Taken,
+                engine: out,
+            };
+        }
         out = delivery::step(out);
-    }
-    Done {
-        answer: Answer::Taken,
-        engine: out,
+        i = i + 1;
     }
 }

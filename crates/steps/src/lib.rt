@@ -3,6 +3,7 @@ ghost use mathlib.Core.Path.{_≡_};
 ghost use Rattle.source_calls.specs.Slots.{setSourceOf};
 ghost use Rattle.triggers.specs.Triggers.{reservedOf};
 ghost use Rattle.steps.specs.Steps as Steps;
+ghost use Rattle.steps.specs.Replies.{replyOf, outcomeReply};
 ghost use Rattle.steps.specs.Steps.{withEngine, quietOf, refusedOf, doneOf, firedOf, shownOf, framedOf, sourceOf, stepOf};
 use engine::Outcome;
 use engine::Triggered;
@@ -71,28 +72,49 @@ fn refused(run: Run, engine: Engine, refusal: Refusal) -> Stepped
     }
 }
 
+fn answered(answer: Answer) -> Reply
+    ensures { λ r. ⌜ r ≡ replyOf answer ⌝ }
+{
+    match answer {
+        Answer::Taken => Reply::Quiet,
+        Answer::Refused(refusal) => Reply::Refused(refusal),
+    }
+}
+
+// The run is put together once, whatever the answer.
 fn done(run: Run, done: Done) -> Stepped
     ensures { λ r. ⌜ r ≡ doneOf run done ⌝ }
 {
     let engine = done.engine;
     let answer = done.answer;
-    match answer {
-        Answer::Taken => quiet(run, engine),
-        Answer::Refused(refusal) => refused(run, engine, refusal),
+    let reply = answered(answer);
+    Stepped {
+        run: with_engine(run, engine),
+        reply,
     }
 }
 
 // Born, not eligible and dropped print nothing.
+fn fired(outcome: Outcome) -> Reply
+    ensures { λ r. ⌜ r ≡ outcomeReply outcome ⌝ }
+{
+    match outcome {
+        Outcome::Born => Reply::Quiet,
+        Outcome::NotEligible => Reply::Quiet,
+        Outcome::Dropped => Reply::Quiet,
+        Outcome::Refused(refusal) => Reply::Refused(refusal),
+    }
+}
+
 fn triggered(run: Run, t: Triggered) -> Stepped
     ensures { λ r. ⌜ r ≡ firedOf run t ⌝ }
 {
     let engine = t.engine;
     let outcome = t.outcome;
-    match outcome {
-        Outcome::Born => quiet(run, engine),
-        Outcome::NotEligible => quiet(run, engine),
-        Outcome::Dropped => quiet(run, engine),
-        Outcome::Refused(refusal) => refused(run, engine, refusal),
+    let reply = fired(outcome);
+    Stepped {
+        run: with_engine(run, engine),
+        reply,
     }
 }
 
@@ -114,8 +136,12 @@ fn framed(run: Run, framed: Framed) -> Stepped
     let frame = framed.frame;
     let answer = framed.answer;
     match answer {
-        Answer::Taken => shown(engine, frame),
-        Answer::Refused(refusal) => refused(run, engine, refusal),
+        Answer::Taken => {
+            return shown(engine, frame);
+        }
+        Answer::Refused(refusal) => {
+            return refused(run, engine, refusal);
+        }
     }
 }
 
@@ -138,36 +164,52 @@ fn reserve(run: Run) -> Stepped
     quiet(run, engine)
 }
 
-// A rate makes the engine anew.
+// A rate makes the engine anew. Each case returns by itself: where cases meet, the run is copied.
 pub fn step(run: Run, field: Field) -> Stepped
     ensures { λ r. ⌜ r ≡ stepOf run field ⌝ }
 {
     match field {
-        Field::Rate(rate) => done(run, engine::new_engine(rate)),
-        Field::Configure(config) => done(run, engine::configure(run.engine, config)),
-        Field::Source(slot, frequency_hz, strength, eligible) => {
-            source(run, slot, frequency_hz, strength, eligible)
+        Field::Rate(rate) => {
+            return done(run, engine::new_engine(rate));
         }
-        Field::Retire(slot) => done(run, engine::retire_source(run.engine, slot as usize)),
-        Field::Release(slot) => done(run, engine::release_source(run.engine, slot as usize)),
-        Field::Trigger(slot) => triggered(run, engine::trigger(run.engine, slot as usize)),
-        Field::Seek(cycles) => quiet(run, engine::seek(run.engine, cycles)),
-        Field::Advance(samples) => done(run, engine::advance(run.engine, samples as u64)),
-        Field::Frame(bin_hz, elapsed) => framed(
-            run,
-            frame::take_frame(run.engine, bin_hz, elapsed),
-        ),
-        Field::NoteInput(present) => quiet(
-            run,
-            engine::set_note_input_present(run.engine, present),
-        ),
-        Field::Reset => quiet(run, engine::reset(run.engine)),
-        Field::Reserve => reserve(run),
+        Field::Configure(config) => {
+            return done(run, engine::configure(run.engine, config));
+        }
+        Field::Source(slot, frequency_hz, strength, eligible) => {
+            return source(run, slot, frequency_hz, strength, eligible);
+        }
+        Field::Retire(slot) => {
+            return done(run, engine::retire_source(run.engine, slot as usize));
+        }
+        Field::Release(slot) => {
+            return done(run, engine::release_source(run.engine, slot as usize));
+        }
+        Field::Trigger(slot) => {
+            return triggered(run, engine::trigger(run.engine, slot as usize));
+        }
+        Field::Seek(cycles) => {
+            return quiet(run, engine::seek(run.engine, cycles));
+        }
+        Field::Advance(samples) => {
+            return done(run, engine::advance(run.engine, samples as u64));
+        }
+        Field::Frame(bin_hz, elapsed) => {
+            return framed(run, frame::take_frame(run.engine, bin_hz, elapsed));
+        }
+        Field::NoteInput(present) => {
+            return quiet(run, engine::set_note_input_present(run.engine, present));
+        }
+        Field::Reset => {
+            return quiet(run, engine::reset(run.engine));
+        }
+        Field::Reserve => {
+            return reserve(run);
+        }
         Field::ReservedTrigger(slot, index) => {
-            triggered(
+            return triggered(
                 run,
                 engine::trigger_reserved(run.engine, slot as usize, index),
-            )
+            );
         }
     }
 }

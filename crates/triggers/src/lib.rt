@@ -13,9 +13,10 @@ pub enum Outcome {
     Refused(Refusal),
 }
 
+// The engine stands first: behind a small enum its copies begin at an odd place.
 pub struct Triggered {
-    pub outcome: Outcome,
     pub engine: Engine,
+    pub outcome: Outcome,
 }
 
 pub struct Reserved {
@@ -41,7 +42,8 @@ fn permitted(engine: Engine, slot: usize) -> bool
 {
     let config = engine.config;
     let shape = config.shape;
-    let source = engine.sources[slot];
+    let sources = engine.sources;
+    let source = sources[slot];
     if config.enabled {
         if settings::is_sprinkle(shape) {
             sources::eligible(source)

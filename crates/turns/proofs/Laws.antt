@@ -1,6 +1,6 @@
 -- Laws of a turn: how many bytes it takes; and a start of 0 samples is an ordinary one.
 use Prim.Native.Nat.{ℕ, suc, _+_, _-_, _≤_, zero-le}
-use mathlib.Core.Path.{_≡_, refl}
+use mathlib.Core.Path.{_≡_, refl, ap, _∙_}
 use mathlib.Core.Bool.{Bool, true, false}
 use mathlib.Core.List.{List}
 use native.Mathlib.Numerals.{add-one}
@@ -16,8 +16,10 @@ use Rattle.steps.specs.declared.Run.{Run}
 use Rattle.steps.specs.declared.Reply.{Reply}
 use Rattle.steps.specs.declared.Reply.the-variants as R
 use Rattle.steps.specs.Steps.{stepOf}
+use Rattle.turns.specs.declared.Said.{Said}
 use Rattle.turns.specs.declared.Turn.{Turn}
-use Rattle.turns.specs.Turns.{refusalOf, repliedOf, afterOf, turnOf, turnsFrom, turnsOf}
+use Rattle.turns.specs.Saying.{refusalSaid, saidOf}
+use Rattle.turns.specs.Turns.{toldOf, refusalOf, repliedOf, afterOf, turnOf, turnsFrom, turnsOf}
 use Rattle.turns.specs.Late.{countedOf, turnsLate}
 
 refusal-taken : (b : Bool) (run : Run) (n k : ℕ) (r : Refusal) (m : ℕ) → k ≤ m → refusalOf b run n k r .taken ≤ m
@@ -63,3 +65,17 @@ turn-three run n s = after-three run n (length s) (readOf s (eqb n 1)) (taken s 
 pub turns-zero : (s : List ℕ) → turnsLate 0 s ≡ turnsOf s
 unfolding turnsLate turnsFrom countedOf pick
 turns-zero s = rw (add-one (length s))
+
+-- the run with what the turn says
+refusal-said : (b : Bool) (run : Run) (n k : ℕ) (r : Refusal) → toldOf run (refusalSaid b n k r .line) (refusalSaid b n k r .taken) ≡ refusalOf b run n k r
+refusal-said true run n k r = refl
+refusal-said false run n k r = refl
+
+said-told : (n k : ℕ) (run : Run) (a : Reply) → toldOf run (saidOf n k a .line) (saidOf n k a .taken) ≡ repliedOf n k run a
+unfolding saidOf
+said-told n k run R.Quiet = refl
+said-told n k run (R.Refused r) = refusal-said (eqb n 1) run n k r
+said-told n k run (R.Framed v) = refl
+
+pub said-as : (n k : ℕ) (run : Run) (a : Reply) (w : Said) → w ≡ saidOf n k a → toldOf run (w .line) (w .taken) ≡ repliedOf n k run a
+said-as n k run a w p = ap (λ (x : Said). toldOf run (x .line) (x .taken)) p ∙ said-told n k run a

@@ -1,7 +1,8 @@
 // One turn of a script: the field at the start of what is left goes to the engine, and has a line.
 ghost use mathlib.Core.Path.{_≡_};
 ghost use Prim.Native.Nat.{_-_};
-ghost use Rattle.turns.specs.Turns.{toldOf, repliedOf, turnOf};
+ghost use Rattle.turns.specs.Turns.{toldOf, turnOf};
+ghost use Rattle.turns.specs.Saying.{saysOf, saidOf};
 ghost use Rattle.turns.specs.Late.{countedOf};
 use lines::Line;
 use script::Read;
@@ -16,26 +17,38 @@ pub struct Turn {
     pub taken: usize,
 }
 
+// What a turn says beside the run.
+struct Said {
+    line: Line,
+    taken: usize,
+}
+
 fn told(run: Run, line: Line, taken: usize) -> Turn
     ensures { λ r. ⌜ r ≡ toldOf run line taken ⌝ }
 {
     Turn { run, line, taken }
 }
 
+fn says(line: Line, taken: usize) -> Said
+    ensures { λ r. ⌜ r ≡ saysOf line taken ⌝ }
+{
+    Said { line, taken }
+}
+
 // A refusal in field 1 is the rate's, and stops the run.
-fn replied(n: u64, k: usize, run: Run, reply: Reply) -> Turn
-    ensures { λ r. ⌜ r ≡ repliedOf n k run reply ⌝ }
+fn replied(n: u64, k: usize, reply: Reply) -> Said
+    ensures { λ r. ⌜ r ≡ saidOf n k reply ⌝ }
 {
     match reply {
-        Reply::Quiet => told(run, Line::Nothing, k),
+        Reply::Quiet => says(Line::Nothing, k),
         Reply::Refused(refusal) => {
             if n == 1 {
-                told(run, Line::Bad(n, refusal), 0)
+                says(Line::Bad(n, refusal), 0)
             } else {
-                told(run, Line::Refused(n, refusal), k)
+                says(Line::Refused(n, refusal), k)
             }
         }
-        Reply::Framed(values) => told(run, Line::Frame(n, values), k),
+        Reply::Framed(values) => says(Line::Frame(n, values), k),
     }
 }
 
@@ -56,10 +69,16 @@ pub fn one_turn(run: Run, n: u64, s: &[u8]) -> Turn
             let stepped = steps::step(run, field);
             let after = stepped.run;
             let reply = stepped.reply;
-            replied(n, k, after, reply)
+            let said = replied(n, k, reply);
+            let line = said.line;
+            return told(after, line, said.taken);
         }
-        Read::Bad(refusal) => told(run, Line::Bad(n, refusal), 0),
-        Read::End => told(run, Line::End(before(n)), 0),
+        Read::Bad(refusal) => {
+            return told(run, Line::Bad(n, refusal), 0);
+        }
+        Read::End => {
+            return told(run, Line::End(before(n)), 0);
+        }
     }
 }
 

@@ -1,28 +1,79 @@
--- `birth` meets its contract: the choice first, then the attempt.
-use mathlib.Core.Path.{ap, _∙_}
-use Rattle.bearing.specs.Birth.{attemptedOf, bornAs, bornOf}
-use Rattle.state.specs.State.{withNext}
-use Rattle.state.specs.declared.Next.{Next}
+-- `birth` meets its contract: the choice, the attempt, the place.
+use Prim.Native.Nat.{ℕ}
+use mathlib.Core.Path.{sym, ap, _∙_}
+use lib.Dec.{ltb}
+use borrow.Author.Tests.{eq-eqb, ne-eqb, lt-ltb, le-ltb}
 use borrow.Author.Needs.{needs}
+use Rattle.bearing.proofs.Born.{spent, turned, crowded, settled}
 use Rattle.bearing.proofs.birth.Statement.{statement}
 use Rattle.bearing.proofs.birth.Tie as tie
 
 choose-requires : tie.Need-choose-requires
 choose-requires c κs = search needs
 
-with-last-requires : tie.Need-with-last-requires
-with-last-requires c κs = search needs
-
-attempt-requires : tie.Need-attempt-requires
-attempt-requires c κs = search needs
+drop-one-requires : tie.Need-drop-one-requires
+drop-one-requires c κs = search needs
 
 returns : tie.Need-returns
-unfolding bornOf
-returns c =
-    let a = c .before .before .before .before .args in
-    c .attempt .ensures
-    ∙ ap (λ (n : Next). attemptedOf (withNext (a .engine) n) (a .index) (c .before .before .before .choose .result)) (c .before .with-last .ensures)
-    ∙ ap (bornAs (a .engine) (a .index)) (c .before .before .before .choose .ensures)
+returns c = spent _ _ _ _ (c .before .before .before .before .choose .ensures) _ (c .drop-one .ensures) (eq-eqb _ _ (c .before .if1 .taken))
+
+try-one-requires : tie.Need-try-one-requires
+try-one-requires c κs = search needs
+
+barred-requires : tie.Need-barred-requires
+barred-requires c κs = search needs
+
+returns-2 : tie.Need-returns-2
+returns-2 c = turned _ _ _ _ (c .before .before .before .before .before .before .choose .ensures) _ (c .before .before .try-one .ensures) (ne-eqb _ _ (c .before .before .before .if1 .left)) (sym (c .before .barred .ensures) ∙ c .if2 .taken)
+
+free-place-requires : tie.Need-free-place-requires
+free-place-requires c κs = search needs
+
+voice-requires : tie.Need-voice-requires
+voice-requires c κs = search needs
+
+newborn-requires : tie.Need-newborn-requires
+newborn-requires c κs = search needs
+
+mul-particles : tie.Need-mul-particles
+mul-particles c = search needs
+
+array-set-from-particles : tie.Need-array-set-from-particles
+array-set-from-particles c = search needs
+
+bear-one-requires : tie.Need-bear-one-requires
+bear-one-requires c κs = search needs
+
+returns-3 : tie.Need-returns-3
+returns-3 c =
+    let at = c .before .before .before .before .before .before .free-place .ensures in
+    settled _ _ _ _ (c .before .before .before .before .before .before .before .before .before .before .before .before .before .before .choose .ensures) _ (c .before .before .before .before .before .before .before .before .before .before .try-one .ensures) (ne-eqb _ _ (c .before .before .before .before .before .before .before .before .before .before .before .if1 .left)) (sym (c .before .before .before .before .before .before .before .before .before .barred .ensures) ∙ c .before .before .before .before .before .before .before .before .if2 .left)
+    _ _ _ _ at (sym (ap (λ (k : ℕ). ltb k 64) at) ∙ lt-ltb _ _ (c .before .before .before .before .before .if3 .taken)) (c .before .before .voice .ensures) (c .before .newborn .ensures) (c .bear-one .ensures)
+
+drop-one-requires-2 : tie.Need-drop-one-requires-2
+drop-one-requires-2 c κs = search needs
+
+returns-4 : tie.Need-returns-4
+returns-4 c =
+    crowded _ _ _ _ (c .before .before .before .before .before .before .before .before .before .before .choose .ensures) _ (c .before .before .before .before .before .before .try-one .ensures) (ne-eqb _ _ (c .before .before .before .before .before .before .before .if1 .left)) (sym (c .before .before .before .before .before .barred .ensures) ∙ c .before .before .before .before .if2 .left)
+    _ (c .drop-one2 .ensures) (sym (ap (λ (k : ℕ). ltb k 64) (c .before .before .free-place .ensures)) ∙ le-ltb _ _ (c .before .if3 .left))
 
 pub birth-spec : {M : Type 1} → statement M
-birth-spec = tie.close (tie.spec choose-requires with-last-requires attempt-requires returns)
+birth-spec =
+    tie.close
+    (tie.spec
+    choose-requires
+    drop-one-requires
+    returns
+    try-one-requires
+    barred-requires
+    returns-2
+    free-place-requires
+    voice-requires
+    newborn-requires
+    mul-particles
+    array-set-from-particles
+    bear-one-requires
+    returns-3
+    drop-one-requires-2
+    returns-4)

@@ -2,13 +2,11 @@
 use mathlib.Core.Path.{refl}
 use Rattle.lists.specs.Pick.{took, skipped}
 use borrow.Author.Tests.{lt-ltb, le-ltb}
-use Rattle.bearing.specs.Birth.{chosenFor}
 use borrow.Author.Needs.{needs}
 use Rattle.bearing.proofs.choose.Statement.{statement}
 use Rattle.bearing.proofs.choose.Tie as tie
 
 returns : tie.Need-returns
-unfolding chosenFor
 returns c = took _ _ _ _ (lt-ltb _ _ (c .if1 .taken)) refl
 
 random-requires : tie.Need-random-requires
@@ -18,8 +16,7 @@ choose-requires : tie.Need-choose-requires
 choose-requires c κs = search needs
 
 returns-2 : tie.Need-returns-2
-unfolding chosenFor
-returns-2 c = skipped _ _ _ _ (le-ltb _ _ (c .before .before .before .if1 .left)) (rw (c .choose .ensures, c .before .random .ensures))
+returns-2 c = skipped _ _ _ _ (le-ltb _ _ (c .before .before .if1 .left)) (rw (c .choose .ensures, c .before .random .ensures))
 
 pub choose-spec : {M : Type 1} → statement M
 choose-spec = tie.close (tie.spec returns random-requires choose-requires returns-2)

@@ -37,10 +37,10 @@ one-turn-requires c κs = search needs
 
 returns : tie.Need-returns Inv-loop μ-loop
 returns c =
-    let l = c .before .before .before .loop in
-    let s = c .before .before .before .before .before .args .script .now in
-    let t = c .before .one-turn .result in
-    let eq = rw (rest (l .at) s) at (c .before .one-turn .ensures) in
+    let l = c .before .before .before .before .loop in
+    let s = c .before .before .before .before .before .before .args .script .now in
+    let t = c .before .before .one-turn .result in
+    let eq = rw (rest (l .at) s) at (c .before .before .one-turn .ensures) in
     stop s (l .run) (l .n) (l .at) (l .inv .1) (l .inv .2) (l .inv .0) t _ (l .inv .3) eq (c .if1 .taken)
 
 add-at : tie.Need-add-at Inv-loop μ-loop
@@ -74,7 +74,7 @@ loop-again c =
       omega arith,
       omega arith,
       omega arith,
-      go-on s (l .run) (l .n) (l .at) (l .inv .1) (l .inv .2) (l .inv .0) t _ (l .inv .3) eq (c .before .if1 .left),
+      go-on s (l .run) (l .n) (l .at) (l .inv .1) (l .inv .2) (l .inv .0) t _ (l .inv .3) eq (c .if1 .left),
     )
 
 pub last-field-spec : {M : Type 1} → statement M

@@ -1,27 +1,17 @@
--- `done` meets its contract: a case for each answer.
+-- `done` meets its contract: the reply, and the run put together.
 use borrow.Author.Needs.{needs}
+use Rattle.steps.proofs.Together.{answered-is}
 use Rattle.steps.proofs.done.Statement.{statement}
 use Rattle.steps.proofs.done.Tie as tie
 
-enum-told : tie.Need-enum-told
-enum-told c = c .match .keys1
+answered-requires : tie.Need-answered-requires
+answered-requires c κs = search needs
 
-quiet-requires : tie.Need-quiet-requires
-quiet-requires c κs = search needs
-
-enum-known-answer : tie.Need-enum-known-answer
-enum-known-answer c = c .match .keys2
-
-refused-requires : tie.Need-refused-requires
-refused-requires c κs = search needs
+with-engine-requires : tie.Need-with-engine-requires
+with-engine-requires c κs = search needs
 
 returns : tie.Need-returns
-returns c = rw (c .before .enum-told .given .1, c .quiet .ensures)
-
-returns-2 : tie.Need-returns-2
-returns-2 c = rw (c .before .before .answer .given .1, c .refused .ensures)
+returns c = rw (c .with-engine .ensures, c .before .answered .ensures) (answered-is (c .before .before .before .args .run) (c .before .before .before .args .done .engine) (c .before .before .before .args .done .answer))
 
 pub done-spec : {M : Type 1} → statement M
-done-spec =
-    tie.close
-    (tie.spec enum-told quiet-requires enum-known-answer refused-requires returns returns-2)
+done-spec = tie.close (tie.spec answered-requires with-engine-requires returns)

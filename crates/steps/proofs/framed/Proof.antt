@@ -24,4 +24,10 @@ returns-2 c = rw (c .before .before .answer .given .1, c .refused .ensures)
 pub framed-spec : {M : Type 1} → statement M
 framed-spec =
     tie.close
-    (tie.spec enum-told shown-requires enum-known-answer refused-requires returns returns-2)
+    (tie.spec
+    enum-told
+    shown-requires
+    returns
+    enum-known-answer
+    refused-requires
+    returns-2)

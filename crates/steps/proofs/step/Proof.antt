@@ -189,55 +189,55 @@ step-spec =
     enum-known-field
     new-engine-requires
     done-requires
+    returns
     enum-known-field-2
     configure-requires
     done-requires-2
+    returns-2
     enum-known-field-3
     source-requires
+    returns-3
     enum-known-field-4
     cast-retire-source
     retire-source-requires
     done-requires-3
+    returns-4
     enum-known-field-5
     cast-release-source
     release-source-requires
     done-requires-4
+    returns-5
     enum-known-field-6
     cast-trigger
     trigger-requires
     triggered-requires
+    returns-6
     enum-known-field-7
     seek-requires
     quiet-requires
+    returns-7
     enum-known-field-8
     cast-advance
     advance-requires
     done-requires-5
+    returns-8
     enum-known-field-9
     take-frame-requires
     framed-requires
+    returns-9
     enum-known-field-10
     set-note-input-present-requires
     quiet-requires-2
+    returns-10
     enum-told
     reset-requires
     quiet-requires-3
+    returns-11
     enum-told-2
     reserve-requires
+    returns-12
     enum-known-field-11
     cast-trigger-reserved
     trigger-reserved-requires
     triggered-requires-2
-    returns
-    returns-2
-    returns-3
-    returns-4
-    returns-5
-    returns-6
-    returns-7
-    returns-8
-    returns-9
-    returns-10
-    returns-11
-    returns-12
     returns-13)

@@ -9,8 +9,8 @@ use Rattle.triggers.proofs.permitted.Tie as tie
 mul-source : tie.Need-mul-source
 mul-source c = search needs
 
-element-copy-out-source : tie.Need-element-copy-out-source
-element-copy-out-source c = search needs
+array-copy-out-source : tie.Need-array-copy-out-source
+array-copy-out-source c = search needs
 
 is-sprinkle-requires : tie.Need-is-sprinkle-requires
 is-sprinkle-requires c κs = search needs
@@ -35,7 +35,7 @@ permitted-spec =
     tie.close
     (tie.spec
     mul-source
-    element-copy-out-source
+    array-copy-out-source
     is-sprinkle-requires
     eligible-requires
     returns

@@ -33,4 +33,4 @@ returns-3 c = skipped _ _ _ _ (c .if1 .left) refl
 pub deliver-spec : {M : Type 1} → statement M
 deliver-spec =
     tie.close
-    (tie.spec enum-told lanes-requires enum-told-2 cloud-requires returns returns-2 returns-3)
+    (tie.spec enum-told lanes-requires returns enum-told-2 cloud-requires returns-2 returns-3)

@@ -26,11 +26,11 @@ returns c = took _ _ _ _ (c .if1 .taken) refl
 move-on-requires : tie.Need-move-on-requires
 move-on-requires c κs = search needs
 
-mul-moved : tie.Need-mul-moved
-mul-moved c = search needs
+mul-streams : tie.Need-mul-streams
+mul-streams c = search needs
 
-element-set-from-moved : tie.Need-element-set-from-moved
-element-set-from-moved c = search needs
+array-set-from-streams : tie.Need-array-set-from-streams
+array-set-from-streams c = search needs
 
 sprinkle-key-requires : tie.Need-sprinkle-key-requires
 sprinkle-key-requires c κs = search needs
@@ -72,8 +72,8 @@ try-lane-spec =
     array-copy-out-stream
     returns
     move-on-requires
-    mul-moved
-    element-set-from-moved
+    mul-streams
+    array-set-from-streams
     sprinkle-key-requires
     birth-requires
     returns-2
