@@ -1,2 +1,2 @@
 pub mod Birth
-pub mod Parts
+pub mod Arrival

@@ -1,7 +1,8 @@
-// One birth: its source, the attempt, the place.
+// One birth: its source, the attempt, the place. It answers what it stores, so that no engine is moved.
 ghost use mathlib.Core.Path.{_≡_};
-ghost use Rattle.bearing.specs.Birth.{triedOne, isBarred, bornOf};
-ghost use Rattle.bearing.specs.Parts.{voiceBy, chosenBy};
+ghost use Rattle.bearing.specs.Birth.{triedOne, isBarred};
+ghost use Rattle.bearing.specs.Arrival.{voiceBy, chosenBy, turnedAway, arrivalOf};
+use pool::Particle;
 use settings::Shape;
 use sources::Source;
 use state::Engine;
@@ -9,6 +10,17 @@ use state::Tally;
 use voices::Voice;
 
 pub const MAX_BIRTH_ATTEMPTS: u64 = 64;
+
+// The place of a birth that takes none.
+pub const NO_PLACE: usize = 64;
+
+// What a birth stores in the engine: the slot that it chose, the tally, and the particle at its place.
+pub struct Arrival {
+    pub particle: Particle,
+    pub tally: Tally,
+    pub slot: usize,
+    pub place: usize,
+}
 
 fn try_one(tally: Tally) -> Tally
     ensures { λ r. ⌜ r ≡ triedOne tally ⌝ }
@@ -57,27 +69,36 @@ fn choose(sources: [Source; 256], last: usize, index: u64, own: usize) -> usize
     choosing::choose(sources, last, draws::random(index, draws::SOURCE))
 }
 
-// The choice is stored whatever follows: a birth that is turned away leaves the sequence of sources as
-// it would have been. The lowest free place is taken; where there is none, the birth is dropped. The
-// places are changed apart from the engine and stored once, so that nothing else of it is moved.
-pub fn birth(engine: Engine, index: u64, own: usize) -> Engine
-    ensures { λ r. ⌜ r ≡ bornOf engine index own ⌝ }
+// A birth that takes no place.
+pub fn turned_away(slot: usize, tally: Tally) -> Arrival
+    ensures { λ r. ⌜ r ≡ turnedAway slot tally ⌝ }
+{
+    let particle = pool::free_particle();
+    Arrival {
+        particle,
+        tally,
+        slot,
+        place: NO_PLACE,
+    }
+}
+
+// The lowest free place is taken; where there is none, the birth is dropped. The choice is among what
+// is to be stored whatever else comes of it: a birth that is turned away leaves the sequence of sources
+// as it would have been.
+pub fn birth(engine: Engine, index: u64, own: usize) -> Arrival
+    ensures { λ r. ⌜ r ≡ arrivalOf engine index own ⌝ }
 {
     let sources = engine.sources;
     let tally = engine.tally;
     let slot = choose(sources, engine.next.last_source, index, own);
-    let mut out = engine;
-    out.next.last_source = slot;
     if tally.attempts == MAX_BIRTH_ATTEMPTS {
-        out.tally = tallies::drop_one(tally);
-        return out;
+        return turned_away(slot, tallies::drop_one(tally));
     }
     let tried = try_one(tally);
     if barred(slot, engine.next.note_input_present) {
-        out.tally = tried;
-        return out;
+        return turned_away(slot, tried);
     }
-    let mut particles = engine.particles;
+    let particles = engine.particles;
     let place = vacancies::free_place(particles);
     if place < 64 {
         let config = engine.config;
@@ -91,7 +112,7 @@ pub fn birth(engine: Engine, index: u64, own: usize) -> Engine
             index,
             slot,
         );
-        let p = births::newborn(
+        let particle = births::newborn(
             index,
             voice,
             config,
@@ -99,11 +120,13 @@ pub fn birth(engine: Engine, index: u64, own: usize) -> Engine
             engine.clock.sample,
             weights,
         );
-        particles[place] = p;
-        out.particles = particles;
-        out.tally = tallies::bear_one(tried, index, engine.clock.sample, p);
-        return out;
+        let tally = tallies::bear_one(tried, index, engine.clock.sample, particle);
+        return Arrival {
+            particle,
+            tally,
+            slot,
+            place,
+        };
     }
-    out.tally = tallies::drop_one(tried);
-    out
+    turned_away(slot, tallies::drop_one(tried))
 }

@@ -1,50 +1,44 @@
-// One sample: it delivers its births, then moves the phase, the offset and the count.
+// One sample: the births that it delivers, and how the offset moves.
 ghost use mathlib.Core.Path.{_≡_};
-ghost use Prim.Native.Nat.{_<_};
-ghost use Rattle.delivery.specs.Sample.{triedOf, lanesOf, opportunityAfter, cloudOf, deliveredOf, glidedOf, tickedOf, steppedOf};
-use settings::Shape;
-use state::Clock;
+ghost use mathlib.Core.Bool.{false};
+ghost use Rattle.lists.specs.Pick.{pick};
+ghost use Rattle.delivery.specs.Sample.{lanesOf, opportunityAfter, cloudOf, glidedOf};
 use state::Engine;
 
-// One try of a lane. Before the stream's next start it does nothing.
-fn try_lane(engine: Engine, lane: usize, reference: f64) -> Engine
-    requires { ⌜ lane < 3 ⌝ }
-    ensures { λ r. ⌜ r ≡ triedOf engine lane reference ⌝ }
+// Whether a stream's start is heard.
+fn sounds(emit: bool, enabled: bool) -> bool
+    ensures { λ r. ⌜ r ≡ pick emit enabled false ⌝ }
 {
-    let config = engine.config;
-    let mut streams = engine.streams;
-    let stream = streams[lane];
-    if reference < stream.next {
-        return engine;
-    }
-    let moved = timing::move_on(stream, lane, reference, config.sync);
-    streams[lane] = moved;
-    let mut out = engine;
-    out.streams = streams;
-    if stream.emit {
-        if config.enabled {
-            return bearing::birth(
-                out,
-                draws::sprinkle_key(lane, stream.index),
-                sources::MAX_SOURCES,
-            );
-        }
-    }
-    out
+    if emit { enabled } else { false }
 }
 
-// Each lane twice: a pair may start together; no backlog is kept. A lane that is not due is passed over
-// here, so that the engine stays where it is.
-fn lanes(engine: Engine, reference: f64) -> Engine
+// Each lane twice: a pair may start together; no backlog is kept. A stream is moved on before its birth,
+// which draws by the old index. All is stored where the engine stands: a lane that is not due moves
+// nothing, and a birth only its own particle.
+pub fn lanes(engine: Engine, reference: f64) -> Engine
     ensures { λ r. ⌜ r ≡ lanesOf engine reference ⌝ }
 {
     let mut out = engine;
     let mut k: usize = 0;
     while k < 6 {
+        let lane = k / 2;
         let streams = out.streams;
-        let stream = streams[k / 2];
+        let stream = streams[lane];
         if reference < stream.next {} else {
-            out = try_lane(out, k / 2, reference);
+            let moved = timing::move_on(stream, lane, reference, out.config.sync);
+            out.streams[lane] = moved;
+            if sounds(stream.emit, out.config.enabled) {
+                let key = draws::sprinkle_key(lane, stream.index);
+                let arrival = bearing::birth(out, key, sources::MAX_SOURCES);
+                let particle = arrival.particle;
+                let tally = arrival.tally;
+                let place = arrival.place;
+                out.next.last_source = arrival.slot;
+                out.tally = tally;
+                if place < 64 {
+                    out.particles[place] = particle;
+                }
+            }
         }
         k += 1;
     }
@@ -62,7 +56,7 @@ fn opportunity_after(opportunity: u64, reference: f64) -> u64
     after
 }
 
-fn cloud(engine: Engine, reference: f64) -> Engine
+pub fn cloud(engine: Engine, reference: f64) -> Engine
     ensures { λ r. ⌜ r ≡ cloudOf engine reference ⌝ }
 {
     let config = engine.config;
@@ -72,28 +66,17 @@ fn cloud(engine: Engine, reference: f64) -> Engine
         let mut out = engine;
         out.next.opportunity = after;
         if config.enabled {
-            return bearing::birth(out, index, sources::MAX_SOURCES);
+            let arrival = bearing::birth(out, index, sources::MAX_SOURCES);
+            let particle = arrival.particle;
+            let tally = arrival.tally;
+            let place = arrival.place;
+            out.next.last_source = arrival.slot;
+            out.tally = tally;
+            if place < 64 {
+                out.particles[place] = particle;
+            }
         }
         return out;
-    }
-    engine
-}
-
-fn deliver(engine: Engine) -> Engine
-    ensures { λ r. ⌜ r ≡ deliveredOf engine ⌝ }
-{
-    let config = engine.config;
-    let shape = config.shape;
-    let reference = engine.clock.phase + engine.clock.phase_offset;
-    if config.scheduled {
-        match shape {
-            Shape::Sprinkle => {
-                return lanes(engine, reference);
-            }
-            Shape::Cloud => {
-                return cloud(engine, reference);
-            }
-        }
     }
     engine
 }
@@ -105,33 +88,4 @@ pub fn glide(phase_offset: f64, phase: f32, alpha: f64) -> f64
     let to = floats::f32_to_f64(phase) - phase_offset + 0.5;
     let difference = floats::rem_euclid64(to, 1.0) - 0.5;
     phase_offset + difference * alpha
-}
-
-fn tick(engine: Engine) -> Engine
-    ensures { λ r. ⌜ r ≡ tickedOf engine ⌝ }
-{
-    let config = engine.config;
-    let clock = engine.clock;
-    let step = floats::f32_to_f64(config.rate_hz) / engine.prepared.sample_rate;
-    let phase = floats::pick64(config.scheduled, clock.phase + step, clock.phase);
-    let phase_offset = glide(
-        clock.phase_offset,
-        config.phase,
-        engine.prepared.phase_alpha,
-    );
-    let sample = std::num::wrapping_add_u64(clock.sample, 1);
-    let moved = Clock {
-        sample,
-        phase,
-        phase_offset,
-    };
-    let mut out = engine;
-    out.clock = moved;
-    out
-}
-
-pub fn step(engine: Engine) -> Engine
-    ensures { λ r. ⌜ r ≡ steppedOf engine ⌝ }
-{
-    tick(deliver(engine))
 }

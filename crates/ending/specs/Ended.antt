@@ -1,7 +1,7 @@
 -- What a whole script comes to. Definitions only.
 use Prim.Native.Nat.{ℕ}
 use mathlib.Core.Bool.{cond}
-use mathlib.Core.List.{List, [], _∷_}
+use mathlib.Core.List.{List}
 use lib.ListN.{length}
 use lib.Dec.{leb}
 use Rattle.refusals.specs.declared.Answer.{Answer}
@@ -13,20 +13,7 @@ use Rattle.lines.specs.declared.Line.{Line}
 use Rattle.lines.specs.declared.Line.the-variants as L
 use Rattle.turns.specs.declared.Turn.{Turn}
 use Rattle.ending.specs.declared.Ended.{Ended}
-use Rattle.turns.specs.Turns.{turnOf, turnsFrom, turnsOf}
-
--- the last of the turns, t where there is none
-unfoldable pub lastOf : Turn → List Turn → Turn
-lastOf t [] = t
-lastOf t (u ∷ us) = lastOf u us
-
--- the last of the turns from field n on
-abbrev pub lastFrom : ℕ → Run → ℕ → List ℕ → Turn
-lastFrom f run n s = lastOf (turnOf run n s) (turnsFrom f run n s)
-
--- a script has one turn at least
-unfoldable pub lastTurn : List ℕ → Turn
-lastTurn s = lastOf (turnOf fresh 1 s) (turnsOf s)
+use Rattle.turns.specs.Last.{lastTurn}
 
 -- 8 to 11, or 1 in field 1
 abbrev pub badOf : Line → Answer

@@ -3,6 +3,7 @@ ghost use mathlib.Core.Path.{_≡_};
 ghost use Rattle.engine.specs.Advance.{advancedOf};
 use refusals::Answer;
 use refusals::Refusal;
+use settings::Shape;
 use state::Done;
 use state::Engine;
 
@@ -39,7 +40,21 @@ pub fn advance(engine: Engine, samples: u64) -> Done
                 engine: out,
             };
         }
-        out = delivery::step(out);
+        if config.scheduled {
+            let shape = config.shape;
+            let reference = moved.phase + moved.phase_offset;
+            match shape {
+                Shape::Sprinkle => {
+                    out = delivery::lanes(out, reference);
+                }
+                Shape::Cloud => {
+                    out = delivery::cloud(out, reference);
+                }
+            }
+        }
+        let now = out.clock;
+        let after = waiting::pass(now, tempo);
+        out.clock = after;
         i = i + 1;
     }
 }

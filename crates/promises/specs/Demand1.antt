@@ -32,7 +32,8 @@ use Rattle.script.specs.declared.Read.the-variants as R
 use Rattle.fields.specs.Bytes.{be16}
 use Rattle.fields.specs.Table.{kindOf, lengthOf, lawful}
 use Rattle.script.specs.Field.{misplaced, unknown, readOf}
-use Rattle.ending.specs.Ended.{badOf, lastTurn}
+use Rattle.ending.specs.Ended.{badOf}
+use Rattle.turns.specs.Last.{lastTurn}
 use Rattle.entry.specs.Entry.{entryAnswer, entryBytes}
 
 -- a test, and the number that is given where it is the first to hold

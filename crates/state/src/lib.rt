@@ -58,10 +58,11 @@ pub struct Engine {
     pub activity: f32,
 }
 
-// What a call answers, beside the engine after it.
+// What a call answers, beside the engine after it, which stands first: behind a small enum its copies
+// would begin at an odd place.
 pub struct Done {
-    pub answer: Answer,
     pub engine: Engine,
+    pub answer: Answer,
 }
 
 pub fn take(engine: Engine) -> Done

@@ -1,8 +1,10 @@
 // Births that a note asks for at once.
 ghost use mathlib.Core.Path.{_≡_};
-ghost use Prim.Native.Nat.{_<_};
-ghost use Rattle.triggers.specs.Triggers.{reservedOf, isPermitted, told, triggeredBy, triggeredOf};
+ghost use Rattle.triggers.specs.Triggers.{reservedOf, triggeredBy, triggeredOf};
+ghost use Rattle.triggers.specs.Firing.{permits, becameOf, withIndexed};
 use refusals::Refusal;
+use settings::Config;
+use sources::Source;
 use state::Engine;
 
 // What a trigger comes to.
@@ -13,7 +15,6 @@ pub enum Outcome {
     Refused(Refusal),
 }
 
-// The engine stands first: behind a small enum its copies begin at an odd place.
 pub struct Triggered {
     pub engine: Engine,
     pub outcome: Outcome,
@@ -36,14 +37,10 @@ pub fn reserve_trigger(engine: Engine) -> Reserved
     Reserved { index, engine: out }
 }
 
-fn permitted(engine: Engine, slot: usize) -> bool
-    requires { ⌜ slot < 256 ⌝ }
-    ensures { λ r. ⌜ r ≡ isPermitted engine slot ⌝ }
+fn permitted(config: Config, source: Source) -> bool
+    ensures { λ r. ⌜ r ≡ permits config source ⌝ }
 {
-    let config = engine.config;
     let shape = config.shape;
-    let sources = engine.sources;
-    let source = sources[slot];
     if config.enabled {
         if settings::is_sprinkle(shape) {
             sources::eligible(source)
@@ -55,33 +52,57 @@ fn permitted(engine: Engine, slot: usize) -> bool
     }
 }
 
-fn told(outcome: Outcome, engine: Engine) -> Triggered
-    ensures { λ r. ⌜ r ≡ told outcome engine ⌝ }
+// A birth that was dropped has made `dropped` grow.
+fn became(before: u64, after: u64) -> Outcome
+    ensures { λ r. ⌜ r ≡ becameOf before after ⌝ }
 {
-    Triggered { outcome, engine }
+    if after == before {
+        return Outcome::Born;
+    }
+    Outcome::Dropped
+}
+
+// A trigger by its index, which leaves `after` as the next one. It has one way out, on which the engine
+// is put together once.
+fn fire(engine: Engine, slot: usize, index: u64, after: u64) -> Triggered
+    ensures { λ r. ⌜ r ≡ triggeredBy (withIndexed engine after) slot index ⌝ }
+{
+    let mut out = engine;
+    out.next.immediate_index = after;
+    let mut outcome = Outcome::Refused(Refusal::Slot);
+    if slot < 256 {
+        let config = out.config;
+        let source = out.sources[slot];
+        outcome = Outcome::NotEligible;
+        if permitted(config, source) {
+            let arrival = bearing::birth(out, index ^ 9223372036854775808, slot);
+            let particle = arrival.particle;
+            let tally = arrival.tally;
+            let place = arrival.place;
+            outcome = became(out.tally.dropped, tally.dropped);
+            out.next.last_source = arrival.slot;
+            out.tally = tally;
+            if place < 64 {
+                out.particles[place] = particle;
+            }
+        }
+    }
+    Triggered {
+        engine: out,
+        outcome,
+    }
 }
 
 pub fn trigger_reserved(engine: Engine, slot: usize, index: u64) -> Triggered
     ensures { λ r. ⌜ r ≡ triggeredBy engine slot index ⌝ }
 {
-    if slot >= 256 {
-        return told(Outcome::Refused(Refusal::Slot), engine);
-    }
-    if permitted(engine, slot) {
-        let out = delivery::birth(engine, index ^ 9223372036854775808, slot);
-        if out.tally.dropped == engine.tally.dropped {
-            return told(Outcome::Born, out);
-        }
-        return told(Outcome::Dropped, out);
-    }
-    told(Outcome::NotEligible, engine)
+    fire(engine, slot, index, engine.next.immediate_index)
 }
 
 pub fn trigger(engine: Engine, slot: usize) -> Triggered
     ensures { λ r. ⌜ r ≡ triggeredOf engine slot ⌝ }
 {
-    let reserved = reserve_trigger(engine);
-    let index = reserved.index;
-    let with_index = reserved.engine;
-    trigger_reserved(with_index, slot, index)
+    let index = engine.next.immediate_index;
+    let next = std::num::wrapping_add_u64(index, 1);
+    fire(engine, slot, index, next)
 }

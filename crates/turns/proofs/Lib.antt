@@ -1,1 +1,3 @@
 pub mod Laws
+mod Going
+mod Fields

@@ -1,3 +1,4 @@
 pub mod Turns
+pub mod Last
 pub mod Late
 pub mod Saying

@@ -1,11 +1,19 @@
 // One turn of a script: the field at the start of what is left goes to the engine, and has a line.
 ghost use mathlib.Core.Path.{_≡_};
-ghost use Prim.Native.Nat.{_-_};
+ghost use Prim.Native.Nat.{_+_, _-_, _<_, _^_};
+ghost use mathlib.Core.Bool.{true, false, not};
+ghost use lib.Dec.{eqb};
+ghost use lib.ListN.{length};
+ghost use Rattle.lists.specs.Pick.{pick};
 ghost use Rattle.turns.specs.Turns.{toldOf, turnOf};
+ghost use Rattle.turns.specs.Last.{lastTurn, turnAfter};
 ghost use Rattle.turns.specs.Saying.{saysOf, saidOf};
 ghost use Rattle.turns.specs.Late.{countedOf};
+use fields::Field;
 use lines::Line;
+use refusals::Answer;
 use script::Read;
+use sources::Source;
 use state::Clock;
 use steps::Reply;
 use steps::Run;
@@ -59,27 +67,147 @@ fn before(n: u64) -> u64
     if n == 0 { 0 } else { n - 1 }
 }
 
+// After a field that takes no byte nothing follows.
+fn goes_on(on: bool, taken: usize) -> bool
+    ensures { λ r. ⌜ r ≡ pick on (not (eqb taken 0)) false ⌝ }
+{
+    if on { taken != 0 } else { false }
+}
+
+// Field n stands at the start of s. One turn, or where it goes `on`, turns up to the one that ends the
+// run; the last of them. The engine and the frame stand here alone, and each call's answer is stored
+// where they stand: handed through a function for each field they would be copied for each.
+fn take_turns(on: bool, run: Run, n: u64, s: &[u8]) -> Turn
+    requires { ⌜ (on ≡ true → n + length (now s) < 2 ^ 64) ⌝ }
+    ensures { λ r. ⌜ r ≡ turnAfter on run n (now (s .entry)) ⌝ }
+{
+    let mut engine = run.engine;
+    let mut frame = run.frame;
+    let mut n = n;
+    let mut at: usize = 0;
+    loop {
+        let read = script::read_field(&s[at..], n == 1);
+        match read {
+            Read::Field(field, k) => {
+                let mut reply = Reply::Quiet;
+                match field {
+                    Field::Rate(rate) => {
+                        let done = engine::new_engine(rate);
+                        let answer = done.answer;
+                        engine = done.engine;
+                        reply = steps::answered(answer);
+                    }
+                    Field::Configure(config) => {
+                        let done = engine::configure(engine, config);
+                        let answer = done.answer;
+                        engine = done.engine;
+                        reply = steps::answered(answer);
+                    }
+                    Field::Source(slot, frequency_hz, strength, eligible) => {
+                        let source = Source {
+                            frequency_hz,
+                            strength,
+                            eligible,
+                        };
+                        let done = engine::set_source(engine, slot as usize, source);
+                        let answer = done.answer;
+                        engine = done.engine;
+                        reply = steps::answered(answer);
+                    }
+                    Field::Retire(slot) => {
+                        let done = engine::retire_source(engine, slot as usize);
+                        let answer = done.answer;
+                        engine = done.engine;
+                        reply = steps::answered(answer);
+                    }
+                    Field::Release(slot) => {
+                        let done = engine::release_source(engine, slot as usize);
+                        let answer = done.answer;
+                        engine = done.engine;
+                        reply = steps::answered(answer);
+                    }
+                    Field::Trigger(slot) => {
+                        let triggered = engine::trigger(engine, slot as usize);
+                        let outcome = triggered.outcome;
+                        engine = triggered.engine;
+                        reply = steps::fired(outcome);
+                    }
+                    Field::Seek(cycles) => {
+                        engine = engine::seek(engine, cycles);
+                    }
+                    Field::Advance(samples) => {
+                        let done = engine::advance(engine, samples as u64);
+                        let answer = done.answer;
+                        engine = done.engine;
+                        reply = steps::answered(answer);
+                    }
+                    Field::Frame(bin_hz, elapsed) => {
+                        let framed = frame::take_frame(engine, bin_hz, elapsed);
+                        let answer = framed.answer;
+                        engine = framed.engine;
+                        match answer {
+                            Answer::Taken => {
+                                frame = framed.frame;
+                                let values = frame_values::values_of(engine, frame.activity);
+                                reply = Reply::Framed(values);
+                            }
+                            Answer::Refused(refusal) => {
+                                reply = Reply::Refused(refusal);
+                            }
+                        }
+                    }
+                    Field::NoteInput(present) => {
+                        engine = engine::set_note_input_present(engine, present);
+                    }
+                    Field::Reset => {
+                        engine = engine::reset(engine);
+                    }
+                    Field::Reserve => {
+                        let reserved = engine::reserve_trigger(engine);
+                        engine = reserved.engine;
+                    }
+                    Field::ReservedTrigger(slot, index) => {
+                        let triggered = engine::trigger_reserved(engine, slot as usize, index);
+                        let outcome = triggered.outcome;
+                        engine = triggered.engine;
+                        reply = steps::fired(outcome);
+                    }
+                }
+                let said = replied(n, k, reply);
+                let line = said.line;
+                let taken = said.taken;
+                if goes_on(on, taken) {
+                    at = at + taken;
+                    n = n + 1;
+                } else {
+                    let run = Run { engine, frame };
+                    return told(run, line, taken);
+                }
+            }
+            Read::Bad(refusal) => {
+                let run = Run { engine, frame };
+                return told(run, Line::Bad(n, refusal), 0);
+            }
+            Read::End => {
+                let run = Run { engine, frame };
+                return told(run, Line::End(before(n)), 0);
+            }
+        }
+    }
+}
+
 // Field n stands at the start of s.
 pub fn one_turn(run: Run, n: u64, s: &[u8]) -> Turn
     ensures { λ r. ⌜ r ≡ turnOf run n (now (s .entry)) ⌝ }
 {
-    let read = script::read_field(s, n == 1);
-    match read {
-        Read::Field(field, k) => {
-            let stepped = steps::step(run, field);
-            let after = stepped.run;
-            let reply = stepped.reply;
-            let said = replied(n, k, reply);
-            let line = said.line;
-            return told(after, line, said.taken);
-        }
-        Read::Bad(refusal) => {
-            return told(run, Line::Bad(n, refusal), 0);
-        }
-        Read::End => {
-            return told(run, Line::End(before(n)), 0);
-        }
-    }
+    take_turns(false, run, n, s)
+}
+
+// The turn that ends a script.
+pub fn last_turn(script: &[u8]) -> Turn
+    ensures { λ r. ⌜ r ≡ lastTurn (now (script .entry)) ⌝ }
+{
+    take_turns(true, steps::fresh(), 1, script)
 }
 
 // Where the first field made an engine, it has counted `start` samples, for the comparison with the

@@ -1,3 +1,4 @@
 pub mod Bits
 pub mod Passing
 pub mod Quiet
+pub mod Delivered

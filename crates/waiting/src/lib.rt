@@ -74,6 +74,20 @@ pub fn tempo_of(config: Config, sample_rate: f64, phase_alpha: f64) -> Tempo
     }
 }
 
+// The clock after a sample: the phase, only when births are scheduled, the offset and the count.
+pub fn pass(clock: Clock, tempo: Tempo) -> Clock
+    ensures { λ r. ⌜ r ≡ passedOf tempo clock ⌝ }
+{
+    let sample = std::num::wrapping_add_u64(clock.sample, 1);
+    let phase = floats::pick64(tempo.scheduled, clock.phase + tempo.step, clock.phase);
+    let phase_offset = delivery::glide(clock.phase_offset, tempo.phase, tempo.alpha);
+    Clock {
+        sample,
+        phase,
+        phase_offset,
+    }
+}
+
 // Before every start.
 fn calm(reference: f64, starts: Starts) -> bool
     ensures { λ r. ⌜ r ≡ isCalm starts reference ⌝ }

@@ -1,17 +1,16 @@
 -- `lanes` meets its contract: six tries, two for each lane.
 use Prim.Native.Nat.{ℕ, _+_, _-_, _/_, _≤_, _<_}
 use native.Mathlib.Omega.{arith}
-use mathlib.Core.Path.{_≡_, refl, ap, _∙_}
-use mathlib.Core.Bool.{true}
+use mathlib.Core.Path.{_≡_, refl, sym, ap, _∙_}
 use mathlib.Core.Logic.{⊎-elim}
-use lib.Ieee.{Float, lt}
-use lib.ListN.{getD}
-use Rattle.lists.specs.Pick.{took}
-use Rattle.state.specs.State.{pastStream}
+use lib.Ieee.{Float}
+use borrow.Author.Tests.{lt-ltb, le-ltb}
+use borrow.Author.Needs.{needs}
 use Rattle.lists.specs.Times.{times, times-none, times-more}
 use Rattle.state.specs.declared.Engine.{Engine}
+use Rattle.bearing.proofs.Born.{stored-placed, stored-away}
 use Rattle.delivery.specs.Sample.{triedOf, laneOf, lanesOf}
-use borrow.Author.Needs.{needs}
+use Rattle.delivery.proofs.Tries.{not-due, after, moved-silent, moved-born}
 use Rattle.delivery.proofs.sample.lanes.Statement.{statement}
 use Rattle.delivery.proofs.sample.lanes.Tie as tie
 
@@ -21,11 +20,6 @@ try reference k e = triedOf e (k / 2) reference
 all : (e : Engine) (reference : Float) → times (try reference) 6 e ≡ lanesOf e reference
 unfolding times lanesOf laneOf
 all e reference = refl
-
--- a try of a lane that is not due
-waits : (e : Engine) (lane : ℕ) (reference : Float) → lt reference (getD (e .streams) lane pastStream .next) ≡ true → e ≡ triedOf e lane reference
-unfolding triedOf
-waits e lane reference h = took _ _ _ _ h refl
 
 abbrev Inv-loop : tie.InvT-loop
 Inv-loop reference out₀ k₀ out k = (k ≤ 6) × (out ≡ times (try reference) k out₀)
@@ -42,8 +36,29 @@ mul-stream c = search needs
 array-copy-out-stream : tie.Need-array-copy-out-stream Inv-loop μ-loop
 array-copy-out-stream c = search needs
 
-try-lane-requires : tie.Need-try-lane-requires Inv-loop μ-loop
-try-lane-requires c κs = search needs
+move-on-requires : tie.Need-move-on-requires Inv-loop μ-loop
+move-on-requires c κs = search needs
+
+mul-moved : tie.Need-mul-moved Inv-loop μ-loop
+mul-moved c = search needs
+
+element-set-from-moved : tie.Need-element-set-from-moved Inv-loop μ-loop
+element-set-from-moved c = search needs
+
+sounds-requires : tie.Need-sounds-requires Inv-loop μ-loop
+sounds-requires c κs = search needs
+
+sprinkle-key-requires : tie.Need-sprinkle-key-requires Inv-loop μ-loop
+sprinkle-key-requires c κs = search needs
+
+birth-requires : tie.Need-birth-requires Inv-loop μ-loop
+birth-requires c κs = search needs
+
+mul-particle : tie.Need-mul-particle Inv-loop μ-loop
+mul-particle c = search needs
+
+element-set-from-particle : tie.Need-element-set-from-particle Inv-loop μ-loop
+element-set-from-particle c = search needs
 
 add-k : tie.Need-add-k Inv-loop μ-loop
 add-k c = search needs
@@ -53,19 +68,28 @@ loop-less c = search needs
 
 loop-again : tie.Need-loop-again Inv-loop μ-loop
 loop-again c =
-    let a = c .before .before .before .before .before .before .args in
-    let l = c .before .before .before .before .before .loop in
+    let r = c .before .before .before .before .before .before .args .reference in
+    let e = c .before .before .before .before .before .loop .out in
+    let lane : ℕ = c .before .before .before .before .before .loop .k / 2 in
+    let on = times-more (try r) _ _ _ _ (c .before .before .before .before .before .loop .inv .1) in
     ⊎-elim
-    (λ w. (search needs, times-more (try (a .reference)) _ _ _ _ (l .inv .1) (w .1 ∙ waits (l .out) (l .k / 2) (a .reference) (w .0 .taken))))
-    (λ w. (search needs, times-more (try (a .reference)) _ _ _ _ (l .inv .1) (w .2 ∙ w .1 .ensures)))
+    (λ w. (search needs, on (w .1 ∙ not-due e lane r (w .0 .taken))))
+    (⊎-elim
+    (λ w.
+    let born = moved-born e lane r (w .1 .result) (w .1 .ensures) (w .0 .left) (w .4 .result) (w .5 .result) (sym (w .2 .ensures) ∙ w .3 .taken) (w .4 .ensures) (w .5 .ensures) in
+    (search needs, on (w .10 ∙ stored-placed (after e lane r (w .1 .result) (w .1 .ensures) (w .0 .left)) (w .5 .result) _ born (lt-ltb _ _ (w .9 .taken)))))
+    (⊎-elim
+    (λ w.
+    let born = moved-born e lane r (w .1 .result) (w .1 .ensures) (w .0 .left) (w .4 .result) (w .5 .result) (sym (w .2 .ensures) ∙ w .3 .taken) (w .4 .ensures) (w .5 .ensures) in
+    (search needs, on (w .10 ∙ stored-away (after e lane r (w .1 .result) (w .1 .ensures) (w .0 .left)) (w .5 .result) _ born (le-ltb _ _ (w .9 .left)))))
+    (λ w. (search needs, on (w .4 ∙ moved-silent e lane r (w .1 .result) (w .1 .ensures) (w .0 .left) (sym (w .2 .ensures) ∙ w .3 .left))))))
     (c .if1 .came)
 
 returns : tie.Need-returns Inv-loop μ-loop
 returns c =
-    let l = c .before .loop in
-    let a = c .before .before .args in
-    let q : l .k ≡ 6 = omega (arith, l .inv .0) in
-    l .inv .1 ∙ ap (λ (k : ℕ). times (try (a .reference)) k (a .engine)) q ∙ all (a .engine) (a .reference)
+    let m = c .before .loop .inv in
+    let six : c .before .loop .k ≡ 6 = omega arith in
+    m .1 ∙ ap (λ (k : ℕ). times (try (c .before .before .args .reference)) k (c .before .before .args .engine)) six ∙ all (c .before .before .args .engine) (c .before .before .args .reference)
 
 pub lanes-spec : {M : Type 1} → statement M
 lanes-spec =
@@ -76,7 +100,14 @@ lanes-spec =
     loop-holds
     mul-stream
     array-copy-out-stream
-    try-lane-requires
+    move-on-requires
+    mul-moved
+    element-set-from-moved
+    sounds-requires
+    sprinkle-key-requires
+    birth-requires
+    mul-particle
+    element-set-from-particle
     add-k
     loop-less
     loop-again

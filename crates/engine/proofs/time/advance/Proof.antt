@@ -6,7 +6,10 @@ use Rattle.lists.specs.Pick.{took, skipped}
 use Rattle.lists.specs.Times.{iterate, iterate-none, iterate-more}
 use borrow.Author.Tests.{le-leb, lt-leb}
 use Rattle.delivery.specs.Sample.{steppedOf}
+use mathlib.Core.Logic.{⊎-elim}
+use Rattle.state.specs.State.{withClock}
 use Rattle.waiting.proofs.Quiet.{waited-after}
+use Rattle.waiting.proofs.Delivered.{by-lanes, by-cloud, by-none}
 use Rattle.engine.specs.Advance.{advancedOf}
 use Rattle.state.specs.State.{taken}
 use borrow.Author.Needs.{needs}
@@ -55,38 +58,60 @@ returns-3 : tie.Need-returns-3 Inv-loop μ-loop
 unfolding advancedOf
 returns-3 c =
     let a = c .before .before .before .before .before .before .before .before .before .before .before .before .before .args in
-    let m = c .before .before .before .before .before .before .before .before .before .loop .inv in
-    let w = c .before .before .before .wait .ensures in
     let h : a .engine .clock .sample + a .samples ≤ 2 ^ 40 = omega arith in
-    took _ _ _ _ (le-leb _ _ h)
-    (ap taken
-    (waited-after _ _ _ _ _ _ _ _ (m .1) (c .before .before .before .before .before .next-starts .ensures) (c .before .before .before .before .tempo-of .ensures) w ∙ ap (λ (k : ℕ). iterate steppedOf k (a .engine)) (c .if3 .taken)))
+    took _ _ _ _ (le-leb _ _ h) (ap taken (waited-after _ _ _ _ _ _ _ _ (c .before .before .before .before .before .before .before .before .before .loop .inv .1) (c .before .before .before .before .before .next-starts .ensures) (c .before .before .before .before .tempo-of .ensures) (c .before .before .before .wait .ensures) ∙ ap (λ (k : ℕ). iterate steppedOf k (a .engine)) (c .if3 .taken)))
 
-step-requires : tie.Need-step-requires Inv-loop μ-loop
-step-requires c κs = search needs
+enum-told : tie.Need-enum-told Inv-loop μ-loop
+enum-told c = search needs
+
+lanes-requires : tie.Need-lanes-requires Inv-loop μ-loop
+lanes-requires c κs = search needs
+
+enum-told-2 : tie.Need-enum-told-2 Inv-loop μ-loop
+enum-told-2 c = search needs
+
+cloud-requires : tie.Need-cloud-requires Inv-loop μ-loop
+cloud-requires c κs = search needs
+
+pass-requires : tie.Need-pass-requires Inv-loop μ-loop
+pass-requires c κs = search needs
 
 add-i-2 : tie.Need-add-i-2 Inv-loop μ-loop
 add-i-2 c =
-    let a = c .before .before .before .before .before .before .before .before .before .before .before .before .before .before .args in
-    let l = c .before .before .before .before .before .before .before .before .before .before .loop in
-    let w = c .before .before .before .before .wait in
-    let few : w .result .count ≤ a .samples - l .i = w .ensures .few in
-    let below : l .i ≤ a .samples = l .inv .0 in
-    let top : a .samples ≤ 2 ^ 40 = c .before .before .before .before .before .before .before .before .before .before .before .before .before .if1 .left in
-    let other : l .i + w .result .count ≡ a .samples → ⊥ = c .before .if3 .left in
+    let few : c .before .before .before .before .before .before .wait .result .count ≤ c .before .before .before .before .before .before .before .before .before .before .before .before .before .before .before .before .args .samples - c .before .before .before .before .before .before .before .before .before .before .before .before .loop .i = c .before .before .before .before .before .before .wait .ensures .few in
+    let below : c .before .before .before .before .before .before .before .before .before .before .before .before .loop .i ≤ c .before .before .before .before .before .before .before .before .before .before .before .before .before .before .before .before .args .samples = c .before .before .before .before .before .before .before .before .before .before .before .before .loop .inv .0 in
+    let top : c .before .before .before .before .before .before .before .before .before .before .before .before .before .before .before .before .args .samples ≤ 2 ^ 40 = c .before .before .before .before .before .before .before .before .before .before .before .before .before .before .before .if1 .left in
+    let other : c .before .before .before .before .before .before .before .before .before .before .before .before .loop .i + c .before .before .before .before .before .before .wait .result .count ≡ c .before .before .before .before .before .before .before .before .before .before .before .before .before .before .before .before .args .samples → ⊥ = c .before .before .before .if3 .left in
     omega arith
 
 loop-less : tie.Need-loop-less Inv-loop μ-loop
-loop-less c = let few = c .before .before .before .before .wait .ensures .few in let m = c .before .before .before .before .before .before .before .before .before .before .loop .inv .0 in omega arith
+loop-less c =
+    let few : c .before .before .before .before .before .before .wait .result .count ≤ c .before .before .before .before .before .before .before .before .before .before .before .before .before .before .before .before .args .samples - c .before .before .before .before .before .before .before .before .before .before .before .before .loop .i = c .before .before .before .before .before .before .wait .ensures .few in
+    let below : c .before .before .before .before .before .before .before .before .before .before .before .before .loop .i ≤ c .before .before .before .before .before .before .before .before .before .before .before .before .before .before .before .before .args .samples = c .before .before .before .before .before .before .before .before .before .before .before .before .loop .inv .0 in
+    let top : c .before .before .before .before .before .before .before .before .before .before .before .before .before .before .before .before .args .samples ≤ 2 ^ 40 = c .before .before .before .before .before .before .before .before .before .before .before .before .before .before .before .if1 .left in
+    let other : c .before .before .before .before .before .before .before .before .before .before .before .before .loop .i + c .before .before .before .before .before .before .wait .result .count ≡ c .before .before .before .before .before .before .before .before .before .before .before .before .before .before .before .before .args .samples → ⊥ = c .before .before .before .if3 .left in
+    omega arith
 
 loop-again : tie.Need-loop-again Inv-loop μ-loop
 loop-again c =
-    let m = c .before .before .before .before .before .before .before .before .before .before .loop .inv in
-    let w = c .before .before .before .before .wait .ensures in
-    let few = w .few in
-    let below = m .0 in (
+    let few : c .before .before .before .before .before .before .wait .result .count ≤ c .before .before .before .before .before .before .before .before .before .before .before .before .before .before .before .before .args .samples - c .before .before .before .before .before .before .before .before .before .before .before .before .loop .i = c .before .before .before .before .before .before .wait .ensures .few in
+    let below : c .before .before .before .before .before .before .before .before .before .before .before .before .loop .i ≤ c .before .before .before .before .before .before .before .before .before .before .before .before .before .before .before .before .args .samples = c .before .before .before .before .before .before .before .before .before .before .before .before .loop .inv .0 in
+    let top : c .before .before .before .before .before .before .before .before .before .before .before .before .before .before .before .before .args .samples ≤ 2 ^ 40 = c .before .before .before .before .before .before .before .before .before .before .before .before .before .before .before .if1 .left in
+    let other : c .before .before .before .before .before .before .before .before .before .before .before .before .loop .i + c .before .before .before .before .before .before .wait .result .count ≡ c .before .before .before .before .before .before .before .before .before .before .before .before .before .before .before .before .args .samples → ⊥ = c .before .before .before .if3 .left in
+    let e = withClock (c .before .before .before .before .before .before .before .before .before .before .before .before .loop .out) (c .before .before .before .before .before .before .wait .result .clock) in
+    let d = c .before .before .if4 .out in
+    let t = c .before .before .before .before .before .before .before .tempo-of .result in
+    let tempo = c .before .before .before .before .before .before .before .tempo-of .ensures in
+    let stepped =
+    ap (withClock d) (c .pass .ensures)
+    ∙ ⊎-elim
+    (λ w. by-lanes e d t tempo (w .0 .taken) (w .3 .given .1) (w .5 ∙ w .4 .ensures))
+    (⊎-elim
+    (λ w. by-cloud e d t tempo (w .0 .taken) (w .3 .given .1) (w .5 ∙ w .4 .ensures))
+    (λ w. by-none e d t tempo (w .0 .left) (w .1)))
+    (c .before .before .if4 .came) in (
       omega arith,
-      iterate-more steppedOf _ _ _ _ (waited-after _ _ _ _ _ _ _ _ (m .1) (c .before .before .before .before .before .before .next-starts .ensures) (c .before .before .before .before .before .tempo-of .ensures) w) (c .step .ensures),
+      iterate-more steppedOf _ _ _ _ (waited-after _ _ _ _ _ _ _ _ (c .before .before .before .before .before .before .before .before .before .before .before .before .loop .inv .1) (c .before .before .before .before .before .before .before .before .next-starts .ensures) (c .before .before .before .before .before .before .before .tempo-of .ensures) (c .before .before .before .before .before .before .wait .ensures)) stepped,
     )
 
 pub advance-spec : {M : Type 1} → statement M
@@ -104,7 +129,11 @@ advance-spec =
     wait-requires
     add-i
     returns-3
-    step-requires
+    enum-told
+    lanes-requires
+    enum-told-2
+    cloud-requires
+    pass-requires
     add-i-2
     loop-less
     loop-again)
