@@ -1,22 +1,26 @@
--- `windows` meets its contract: the loop fills by index.
+-- `windows` meets its contract: the loop fills by index, and leaves the windows that show nothing.
+use mathlib.Core.Path.{_∙_}
+use mathlib.Core.Logic.{⊎-elim}
 use Prim.Native.Nat.{_-_}
-use Rattle.lists.specs.Table.{Filled, filled-none, filled-more, filled-all}
+use Rattle.windows.specs.Opening.{none}
 use Rattle.partials.specs.Windows.{windowAt, windowsOf}
+use Rattle.partials.proofs.Blank.{Blank, blank-none, blank-stored, blank-left, blank-all}
+use Rattle.partials.proofs.Harmonic.{row-shows, other-shows-none}
 use borrow.Author.Needs.{needs}
 use Rattle.partials.proofs.windows.Statement.{statement}
 use Rattle.partials.proofs.windows.Tie as tie
 
 abbrev Inv-loop : tie.InvT-loop
-Inv-loop logs bin-hz max-hz shown out₀ j₀ out j = Filled (windowAt logs bin-hz max-hz shown) 192 j out
+Inv-loop bin-hz max-hz shown logs out₀ j₀ out j = Blank (windowAt logs bin-hz max-hz shown) none 192 j out
 
 abbrev μ-loop : tie.MeasureT-loop
-μ-loop logs bin-hz max-hz shown out₀ j₀ out j = 192 - j
+μ-loop bin-hz max-hz shown logs out₀ j₀ out j = 192 - j
 
 no-window-requires : tie.Need-no-window-requires Inv-loop μ-loop
 no-window-requires c κs = search needs
 
 loop-holds : tie.Need-loop-holds Inv-loop μ-loop
-loop-holds c = filled-none _ 192 _ (search needs)
+loop-holds c = blank-none _ none 192 _ (c .no-window .ensures)
 
 mul-s : tie.Need-mul-s Inv-loop μ-loop
 mul-s c = search needs
@@ -24,11 +28,20 @@ mul-s c = search needs
 array-copy-out-s : tie.Need-array-copy-out-s Inv-loop μ-loop
 array-copy-out-s c = search needs
 
-array-read-window : tie.Need-array-read-window Inv-loop μ-loop
-array-read-window c = search needs
+array-read-row : tie.Need-array-read-row Inv-loop μ-loop
+array-read-row c = search needs
 
-window-requires : tie.Need-window-requires Inv-loop μ-loop
-window-requires c κs = search needs
+row-requires : tie.Need-row-requires Inv-loop μ-loop
+row-requires c κs = search needs
+
+mul-center : tie.Need-mul-center Inv-loop μ-loop
+mul-center c = search needs
+
+array-read-center : tie.Need-array-read-center Inv-loop μ-loop
+array-read-center c = search needs
+
+placed-requires : tie.Need-placed-requires Inv-loop μ-loop
+placed-requires c κs = search needs
 
 mul-out : tie.Need-mul-out Inv-loop μ-loop
 mul-out c = search needs
@@ -44,11 +57,17 @@ loop-less c = search needs
 
 loop-again : tie.Need-loop-again Inv-loop μ-loop
 unfolding windowAt
-loop-again c = filled-more (c .before .before .before .before .loop .inv) _ (search needs) (c .window .ensures)
+loop-again c =
+    let m = c .before .before .before .before .before .loop .inv in
+    let row = c .before .row .ensures in
+    ⊎-elim
+    (λ w. rw (w .3) (blank-stored _ _ 192 _ _ m _ (search needs) (w .2 .ensures ∙ row-shows _ _ _ _ _ _ (w .0 .taken) (row .0 (w .0 .taken)))))
+    (λ w. rw (w .1) (blank-left _ _ 192 _ _ m (search needs) (other-shows-none _ _ _ _ _ (row .1 (w .0 .left)))))
+    (c .if1 .came)
 
 returns : tie.Need-returns Inv-loop μ-loop
 unfolding windowsOf
-returns c = filled-all (c .before .loop .inv) (search needs)
+returns c = blank-all _ _ 192 _ _ (c .before .loop .inv) (search needs)
 
 pub windows-spec : {M : Type 1} → statement M
 windows-spec =
@@ -60,8 +79,11 @@ windows-spec =
     loop-holds
     mul-s
     array-copy-out-s
-    array-read-window
-    window-requires
+    array-read-row
+    row-requires
+    mul-center
+    array-read-center
+    placed-requires
     mul-out
     array-set-from-out
     add-j
