@@ -23,10 +23,15 @@ pub struct Seen {
     pub shown: [Shown; 64],
 }
 
+// Below 2^32 samples, a day at 48 kHz, one instruction makes the float.
 fn seconds(since: u64, sample: u64, rate: f64) -> f64
     ensures { λ r. ⌜ r ≡ secondsOf since sample rate ⌝ }
 {
-    std::num::nearest_u64_to_f64(std::num::wrapping_sub_u64(sample, since)) / rate
+    let elapsed = std::num::wrapping_sub_u64(sample, since);
+    if elapsed < 4294967296 {
+        return (elapsed as f64) / rate;
+    }
+    std::num::nearest_u64_to_f64(elapsed) / rate
 }
 
 fn retirement(k: Retired, sample: u64, rate: f64) -> f64
