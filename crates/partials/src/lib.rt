@@ -56,13 +56,15 @@ pub fn windows(shown: [Shown; 64], logs: [f32; 24], bin_hz: f32, max_hz: f32) ->
 {
     let none = no_window();
     let mut out = [none; 192];
-    for j in 0..192 {
-        let s = shown[j % 64];
+    for p in 0..64 {
+        let s = shown[p];
         let partials = s.partials;
-        let row = row(partials[j / 64]);
-        if row < 24 {
-            let center = s.root_log + logs[row];
-            out[j] = placed(s, center, bin_hz, max_hz);
+        for w in 0..3 {
+            let row = row(partials[w]);
+            if row < 24 {
+                let center = s.root_log + logs[row];
+                out[p + 64 * w] = placed(s, center, bin_hz, max_hz);
+            }
         }
     }
     out
