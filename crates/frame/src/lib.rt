@@ -10,10 +10,12 @@ use windows::Frame;
 
 pub const TRANSITION_SECONDS: f32 = 0.05;
 
+// The two-byte answer stands last: before the others it would put them at odd addresses, where copies
+// are slow.
 pub struct Framed {
-    pub answer: Answer,
-    pub frame: Frame,
     pub engine: Engine,
+    pub frame: Frame,
+    pub answer: Answer,
 }
 
 // The background comes and goes over 0.05 s; below 1e-6 a disabled one is gone.
@@ -59,8 +61,9 @@ fn taken(engine: Engine, bin_hz: f32, elapsed_seconds: f32) -> Framed
     let sample = engine.clock.sample;
     let rate = prepared.sample_rate;
     let particles = engine.particles;
-    let held = places::sweep(particles, sample, rate);
-    let shown = places::show_all(held, sample, rate);
+    let seen = places::look(particles, sample, rate);
+    let held = seen.held;
+    let shown = seen.shown;
     let windows = partials::windows(shown, logs, bin_hz, voices::max_hz(rate));
     let activity = activity(engine.activity, config.enabled, elapsed_seconds);
     let frame = Frame { windows, activity };

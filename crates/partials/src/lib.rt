@@ -1,6 +1,8 @@
 // The windows of a frame: those of the partials that each place shows.
 ghost use mathlib.Core.Path.{_≡_};
-ghost use Rattle.partials.specs.Windows.{radiusOf, windowOf, windowsOf};
+ghost use mathlib.Core.Logic.{_⊎_};
+ghost use Prim.Native.Nat.{_+_, _≤_, _<_};
+ghost use Rattle.partials.specs.Windows.{radiusOf, placedOf, windowsOf};
 ghost use Rattle.windows.specs.Opening.{none};
 use places::Shown;
 use windows::Window;
@@ -23,17 +25,18 @@ fn no_window() -> Window
     }
 }
 
-// The window of harmonic `partial`, or none where it is 0 or too high to show.
-fn window(s: Shown, partial: u8, logs: [f32; 24], bin_hz: f32, max_hz: f32) -> Window
-    ensures { λ r. ⌜ r ≡ windowOf logs «bin_hz» «max_hz» s partial ⌝ }
+// The row of a harmonic in the table of logarithms. For what is none it lies past the table's end: 0,
+// which marks an unused window, wraps.
+fn row(partial: u8) -> usize
+    ensures { λ r. ⌜ (r < 24 → partial ≡ r + 1) × (24 ≤ r → (partial ≡ 0) ⊎ (24 < partial)) ⌝ }
 {
-    if partial == 0 {
-        return no_window();
-    }
-    if partial > 24 {
-        return no_window();
-    }
-    let center = s.root_log + logs[partial as usize - 1];
+    std::num::wrapping_sub_usize(partial as usize, 1)
+}
+
+// The window at the center, or none where that is too high to show.
+fn placed(s: Shown, center: f32, bin_hz: f32, max_hz: f32) -> Window
+    ensures { λ r. ⌜ r ≡ placedOf «bin_hz» «max_hz» s center ⌝ }
+{
     let hz = elementary::exp2(center);
     if hz >= max_hz {
         return no_window();
@@ -46,16 +49,23 @@ fn window(s: Shown, partial: u8, logs: [f32; 24], bin_hz: f32, max_hz: f32) -> W
     }
 }
 
-// The window of partial w of place p stands at p + 64 w.
+// The window of partial w of place p stands at p + 64 w. The table of logarithms is read here, and not
+// in a function that would be handed it whole; where nothing shows, the window is none already.
 pub fn windows(shown: [Shown; 64], logs: [f32; 24], bin_hz: f32, max_hz: f32) -> [Window; 192]
     ensures { λ r. ⌜ r ≡ windowsOf logs «bin_hz» «max_hz» shown ⌝ }
 {
     let none = no_window();
     let mut out = [none; 192];
-    for j in 0..192 {
-        let s = shown[j % 64];
+    for p in 0..64 {
+        let s = shown[p];
         let partials = s.partials;
-        out[j] = window(s, partials[j / 64], logs, bin_hz, max_hz);
+        for w in 0..3 {
+            let row = row(partials[w]);
+            if row < 24 {
+                let center = s.root_log + logs[row];
+                out[p + 64 * w] = placed(s, center, bin_hz, max_hz);
+            }
+        }
     }
     out
 }

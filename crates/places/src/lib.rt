@@ -1,8 +1,9 @@
 // The places at a frame: which are freed, and what the particles in the others show.
 ghost use mathlib.Core.Path.{_≡_};
-ghost use mathlib.Core.List.{map};
-ghost use Rattle.places.specs.Freed.{secondsOf, retirementOf, dueOf, sweepOne};
-ghost use Rattle.places.specs.Shown.{powerOf, envelopeOf, amplitudeOf, nothing, shownOf};
+ghost use mathlib.Core.Bool.{_&&_};
+ghost use Rattle.places.specs.Freed.{secondsOf, retirementOf, dueOf};
+ghost use Rattle.places.specs.Shown.{powerOf, envelopeOf, fadeOf, amplitudeOf, nothing, shownOf};
+ghost use Rattle.places.specs.Seen.{seenOf};
 use pool::Particle;
 use pool::Retired;
 
@@ -16,10 +17,21 @@ pub struct Shown {
     pub partials: [u8; 3],
 }
 
+// The places after a frame, and what each shows in it.
+pub struct Seen {
+    pub held: [Particle; 64],
+    pub shown: [Shown; 64],
+}
+
+// Below 2^32 samples, a day at 48 kHz, one instruction makes the float.
 fn seconds(since: u64, sample: u64, rate: f64) -> f64
     ensures { λ r. ⌜ r ≡ secondsOf since sample rate ⌝ }
 {
-    std::num::nearest_u64_to_f64(std::num::wrapping_sub_u64(sample, since)) / rate
+    let elapsed = std::num::wrapping_sub_u64(sample, since);
+    if elapsed < 4294967296 {
+        return (elapsed as f64) / rate;
+    }
+    std::num::nearest_u64_to_f64(elapsed) / rate
 }
 
 fn retirement(k: Retired, sample: u64, rate: f64) -> f64
@@ -41,26 +53,14 @@ fn due(p: Particle, sample: u64, rate: f64) -> bool
     retirement(k, sample, rate) >= 1.0
 }
 
-fn sweep_one(p: Particle, sample: u64, rate: f64) -> Particle
-    ensures { λ r. ⌜ r ≡ sweepOne sample rate p ⌝ }
+// Whether a frame frees the place.
+fn freed(p: Particle, sample: u64, rate: f64) -> bool
+    ensures { λ r. ⌜ r ≡ (p .active && dueOf sample rate p) ⌝ }
 {
     if p.active {
-        if due(p, sample, rate) {
-            return pool::free_particle();
-        }
+        return due(p, sample, rate);
     }
-    p
-}
-
-pub fn sweep(particles: [Particle; 64], sample: u64, rate: f64) -> [Particle; 64]
-    ensures { λ r. ⌜ r ≡ map (sweepOne sample rate) particles ⌝ }
-{
-    let mut out = particles;
-    for i in 0..64 {
-        let p = out[i];
-        out[i] = sweep_one(p, sample, rate);
-    }
-    out
+    false
 }
 
 fn powered(x: f32, power: u32) -> f32
@@ -81,13 +81,22 @@ fn envelope(x: f32, attack: f32, decay_power: u32) -> f32
     powered(windows::taper((1.0 - x) / (1.0 - attack)), decay_power)
 }
 
+// A particle that isn't retired shows in full.
+fn fade(p: Particle, sample: u64, rate: f64) -> f32
+    ensures { λ r. ⌜ r ≡ fadeOf sample rate p ⌝ }
+{
+    let k = p.retirement;
+    match k {
+        Retired::Not => 1.0,
+        Retired::At(_) => windows::taper(1.0 - floats::f64_to_f32(retirement(k, sample, rate))),
+    }
+}
+
 fn amplitude(p: Particle, sample: u64, rate: f64) -> f32
     ensures { λ r. ⌜ r ≡ amplitudeOf sample rate p ⌝ }
 {
-    let k = p.retirement;
     let x = floats::f64_to_f32(seconds(p.birth, sample, rate) / p.lifetime);
-    let fade = floats::f64_to_f32(retirement(k, sample, rate));
-    p.strength * envelope(x, p.attack, p.decay_power) * windows::taper(1.0 - fade)
+    p.strength * envelope(x, p.attack, p.decay_power) * fade(p, sample, rate)
 }
 
 fn nothing_shown() -> Shown
@@ -119,14 +128,23 @@ fn show(p: Particle, sample: u64, rate: f64) -> Shown
     nothing_shown()
 }
 
-pub fn show_all(particles: [Particle; 64], sample: u64, rate: f64) -> [Shown; 64]
-    ensures { λ r. ⌜ r ≡ map (shownOf sample rate) particles ⌝ }
+// Frees the places that are due, and works out what the particles in the others show, in one pass. A
+// place is stored only where it is freed, so that the others aren't copied.
+pub fn look(held: [Particle; 64], sample: u64, rate: f64) -> Seen
+    ensures { λ r. ⌜ r ≡ seenOf sample rate held ⌝ }
 {
+    let free = pool::free_particle();
     let nothing = nothing_shown();
-    let mut out = [nothing; 64];
+    let shown = [nothing; 64];
+    let mut out = Seen { held, shown };
     for i in 0..64 {
-        let p = particles[i];
-        out[i] = show(p, sample, rate);
+        let p = out.held[i];
+        if freed(p, sample, rate) {
+            out.held[i] = free;
+            out.shown[i] = nothing;
+        } else {
+            out.shown[i] = show(p, sample, rate);
+        }
     }
     out
 }

@@ -1,70 +1,131 @@
--- `windows` meets its contract: the loop fills by index.
-use Prim.Native.Nat.{_-_}
-use Rattle.lists.specs.Table.{Filled, filled-none, filled-more, filled-all}
+-- `windows` meets its contract: the loops fill by place and window, and leave the windows that show nothing.
+use mathlib.Core.Path.{_∙_}
+use mathlib.Core.Logic.{⊎-elim}
+use Prim.Native.Nat.{_+_, _*_, _-_, _≤_}
+use native.Mathlib.Omega.{arith}
+use Rattle.windows.specs.Opening.{none}
 use Rattle.partials.specs.Windows.{windowAt, windowsOf}
+use Rattle.partials.proofs.Blank.{Blank, blank-none, blank-turns, blank-stored, blank-left, blank-all}
+use Rattle.partials.proofs.Harmonic.{row-shows, other-shows-none, at-place}
 use borrow.Author.Needs.{needs}
 use Rattle.partials.proofs.windows.Statement.{statement}
 use Rattle.partials.proofs.windows.Tie as tie
 
+abbrev Inv-loop2 : tie.InvT-loop2
+Inv-loop2 bin-hz max-hz shown logs out₀ p s partials w₀ out w = (w ≤ 3) × Blank (windowAt logs bin-hz max-hz shown) none (3 * p + w) out
+
+abbrev μ-loop2 : tie.MeasureT-loop2
+μ-loop2 bin-hz max-hz shown logs out₀ p s partials w₀ out w = 3 - w
+
 abbrev Inv-loop : tie.InvT-loop
-Inv-loop logs bin-hz max-hz shown out₀ j₀ out j = Filled (windowAt logs bin-hz max-hz shown) 192 j out
+Inv-loop bin-hz max-hz shown logs out₀ p₀ out p = Blank (windowAt logs bin-hz max-hz shown) none (3 * p) out
 
 abbrev μ-loop : tie.MeasureT-loop
-μ-loop logs bin-hz max-hz shown out₀ j₀ out j = 192 - j
+μ-loop bin-hz max-hz shown logs out₀ p₀ out p = 64 - p
 
-no-window-requires : tie.Need-no-window-requires Inv-loop μ-loop
+no-window-requires : tie.Need-no-window-requires Inv-loop2 μ-loop2 Inv-loop μ-loop
 no-window-requires c κs = search needs
 
-loop-holds : tie.Need-loop-holds Inv-loop μ-loop
-loop-holds c = filled-none _ 192 _ (search needs)
+loop-holds : tie.Need-loop-holds Inv-loop2 μ-loop2 Inv-loop μ-loop
+loop-holds c = blank-none _ none _ (c .no-window .ensures)
 
-mul-s : tie.Need-mul-s Inv-loop μ-loop
+mul-s : tie.Need-mul-s Inv-loop2 μ-loop2 Inv-loop μ-loop
 mul-s c = search needs
 
-array-copy-out-s : tie.Need-array-copy-out-s Inv-loop μ-loop
+array-copy-out-s : tie.Need-array-copy-out-s Inv-loop2 μ-loop2 Inv-loop μ-loop
 array-copy-out-s c = search needs
 
-array-read-window : tie.Need-array-read-window Inv-loop μ-loop
-array-read-window c = search needs
+loop2-holds : tie.Need-loop2-holds Inv-loop2 μ-loop2 Inv-loop μ-loop
+loop2-holds c = (omega arith, blank-turns _ _ _ _ _ (c .before .before .before .loop .inv) (omega arith))
 
-window-requires : tie.Need-window-requires Inv-loop μ-loop
-window-requires c κs = search needs
+array-read-row : tie.Need-array-read-row Inv-loop2 μ-loop2 Inv-loop μ-loop
+array-read-row c = search needs
 
-mul-out : tie.Need-mul-out Inv-loop μ-loop
+row-requires : tie.Need-row-requires Inv-loop2 μ-loop2 Inv-loop μ-loop
+row-requires c κs = search needs
+
+mul-center : tie.Need-mul-center Inv-loop2 μ-loop2 Inv-loop μ-loop
+mul-center c = search needs
+
+array-read-center : tie.Need-array-read-center Inv-loop2 μ-loop2 Inv-loop μ-loop
+array-read-center c = search needs
+
+placed-requires : tie.Need-placed-requires Inv-loop2 μ-loop2 Inv-loop μ-loop
+placed-requires c κs = search needs
+
+mul-out : tie.Need-mul-out Inv-loop2 μ-loop2 Inv-loop μ-loop
 mul-out c = search needs
 
-array-set-from-out : tie.Need-array-set-from-out Inv-loop μ-loop
+add-out : tie.Need-add-out Inv-loop2 μ-loop2 Inv-loop μ-loop
+add-out c = search needs
+
+mul-out-2 : tie.Need-mul-out-2 Inv-loop2 μ-loop2 Inv-loop μ-loop
+mul-out-2 c = search needs
+
+array-set-from-out : tie.Need-array-set-from-out Inv-loop2 μ-loop2 Inv-loop μ-loop
 array-set-from-out c = search needs
 
-add-j : tie.Need-add-j Inv-loop μ-loop
-add-j c = search needs
+add-w : tie.Need-add-w Inv-loop2 μ-loop2 Inv-loop μ-loop
+add-w c = search needs
 
-loop-less : tie.Need-loop-less Inv-loop μ-loop
+loop2-less : tie.Need-loop2-less Inv-loop2 μ-loop2 Inv-loop μ-loop
+loop2-less c = search needs
+
+loop2-again : tie.Need-loop2-again Inv-loop2 μ-loop2 Inv-loop μ-loop
+loop2-again c =
+    let m = c .before .before .before .loop2 .inv .1 in
+    let row = c .before .row .ensures in
+    let place = c .before .before .before .before .before .before .loop-test .taken in
+    let window = c .before .before .loop2-test .taken in (
+      search needs,
+      ⊎-elim
+          (λ u.
+          rw (u .3)
+          (blank-stored _ _ _ _ _ m place window _
+          (u .2 .ensures ∙ row-shows _ _ _ _ _ _ (u .0 .taken) (row .0 (u .0 .taken)) ∙ at-place _ _ _ _ _ _ place)))
+          (λ u. rw (u .1) (blank-left _ _ _ _ _ m place window (other-shows-none _ _ _ _ _ (row .1 (u .0 .left)) ∙ at-place _ _ _ _ _ _ place)))
+          (c .if1 .came),
+    )
+
+add-p : tie.Need-add-p Inv-loop2 μ-loop2 Inv-loop μ-loop
+add-p c = search needs
+
+loop-less : tie.Need-loop-less Inv-loop2 μ-loop2 Inv-loop μ-loop
 loop-less c = search needs
 
-loop-again : tie.Need-loop-again Inv-loop μ-loop
-unfolding windowAt
-loop-again c = filled-more (c .before .before .before .before .loop .inv) _ (search needs) (c .window .ensures)
+loop-again : tie.Need-loop-again Inv-loop2 μ-loop2 Inv-loop μ-loop
+loop-again c = blank-turns _ _ _ _ _ (c .before .loop2 .inv .1) (omega (arith, c .before .loop2 .inv .0, c .loop2-test .left))
 
-returns : tie.Need-returns Inv-loop μ-loop
+returns : tie.Need-returns Inv-loop2 μ-loop2 Inv-loop μ-loop
 unfolding windowsOf
-returns c = filled-all (c .before .loop .inv) (search needs)
+returns c = blank-all _ _ _ _ (c .before .loop .inv) (omega (arith, c .loop-test .left))
 
 pub windows-spec : {M : Type 1} → statement M
 windows-spec =
     tie.close
     (tie.spec
+    Inv-loop2
+    μ-loop2
     Inv-loop
     μ-loop
     no-window-requires
     loop-holds
     mul-s
     array-copy-out-s
-    array-read-window
-    window-requires
+    loop2-holds
+    array-read-row
+    row-requires
+    mul-center
+    array-read-center
+    placed-requires
     mul-out
+    add-out
+    mul-out-2
     array-set-from-out
-    add-j
+    add-w
+    loop2-less
+    loop2-again
+    add-p
     loop-less
     loop-again
     returns)

@@ -1,5 +1,5 @@
 -- `amplitude` meets its contract: the callees' answers, put together.
-use Rattle.places.specs.Shown.{amplitudeOf, passedOf, fadeOf}
+use Rattle.places.specs.Shown.{amplitudeOf, passedOf}
 use borrow.Author.Needs.{needs}
 use Rattle.places.proofs.amplitude.Statement.{statement}
 use Rattle.places.proofs.amplitude.Tie as tie
@@ -10,30 +10,17 @@ seconds-requires c κs = search needs
 f64-to-f32-requires : tie.Need-f64-to-f32-requires
 f64-to-f32-requires c κs = search needs
 
-retirement-requires : tie.Need-retirement-requires
-retirement-requires c κs = search needs
-
-f64-to-f32-requires-2 : tie.Need-f64-to-f32-requires-2
-f64-to-f32-requires-2 c κs = search needs
-
 envelope-requires : tie.Need-envelope-requires
 envelope-requires c κs = search needs
 
-taper-requires : tie.Need-taper-requires
-taper-requires c κs = search needs
+fade-requires : tie.Need-fade-requires
+fade-requires c κs = search needs
 
 returns : tie.Need-returns
-unfolding amplitudeOf passedOf fadeOf
-returns c = rw (c .taper .ensures, c .before .before .envelope .ensures, c .before .before .before .f64-to-f322 .ensures, c .before .before .before .before .retirement .ensures, c .before .before .before .before .before .f64-to-f32 .ensures, c .before .before .before .before .before .before .before .seconds .ensures)
+unfolding amplitudeOf passedOf
+returns c = rw (c .fade .ensures, c .before .before .envelope .ensures, c .before .before .before .f64-to-f32 .ensures, c .before .before .before .before .before .seconds .ensures)
 
 pub amplitude-spec : {M : Type 1} → statement M
 amplitude-spec =
     tie.close
-    (tie.spec
-    seconds-requires
-    f64-to-f32-requires
-    retirement-requires
-    f64-to-f32-requires-2
-    envelope-requires
-    taper-requires
-    returns)
+    (tie.spec seconds-requires f64-to-f32-requires envelope-requires fade-requires returns)
