@@ -1,3 +1,2 @@
-pub mod Bits
-pub mod Passing
-pub mod Quiet
+pub mod Waits
+pub mod NothingDue

@@ -1,18 +1,13 @@
--- A sample before every start moves only the clock, and so do any number of them.
-use Prim.Native.Nat.{ℕ, zero, suc, _+_, _*_, _≤_, _<_}
-use native.Mathlib.Omega.{arith}
+-- A sample at which nothing is due moves the clock alone, and so do those of `wait`.
+use Prim.Native.Nat.{ℕ, zero, suc, _+_}
 use mathlib.Core.Path.{_≡_, refl, sym, ap, _∙_, subst}
-use mathlib.Core.Bool.{Bool, true, false, not, _||_, _&&_}
-use mathlib.Core.List.{List}
-use lib.Dec.{ltb, eqb}
-use lib.IntN.{ℤ}
-use lib.Ieee.{Float, nan, inf, fin, below, level, up, down, lt, le, eq}
+use mathlib.Core.Bool.{Bool, true, false}
+use lib.Ieee.{Float, lt}
 use lib.ListN.{getD}
-use borrow.Author.Tests.{ltb-true, le-ltb, ne-eqb, eqb-true}
 use Rattle.casts.proofs.Sat.{no}
-use Rattle.lists.specs.Pick.{pick, picked, took, skipped, by-case}
-use Rattle.lists.specs.Times.{iterate, iterate-add}
-use Rattle.floats.specs.Names.{div64}
+use Rattle.lists.specs.Pick.{pick, picked, passed, took, skipped, by-case}
+use Rattle.lists.specs.Times.{iterate, iterate-none, iterate-more, iterate-add}
+use Rattle.floats.proofs.Below.{lt-not-le}
 use Rattle.settings.specs.declared.Shape.{Shape}
 use Rattle.settings.specs.declared.Shape.the-variants.{Sprinkle, Cloud}
 use Rattle.timing.specs.Streams.{referenceOf}
@@ -22,36 +17,8 @@ use Rattle.state.specs.State.{withClock, pastStream}
 use Rattle.delivery.specs.Sample.{referenceNow, steppedOf, deliveredOf, tickedOf, byShape, lanesOf, laneOf, triedOf, cloudOf}
 use Rattle.waiting.specs.declared.Starts.{Starts}
 use Rattle.waiting.specs.declared.Tempo.{Tempo}
-use Rattle.waiting.specs.Waiting.{startsOf, shapeStarts, isCalm, passedOf, startsFor, tempoFor, Passed}
-
--- ---- what is below is not at or above
-sides : (s t : Bool) (a b : ℕ) → below s a t b ≡ true → (below t b s a || level t b s a) ≡ false
-sides false false a b h =
-    let l : a < b = ltb-true _ _ h in
-    ap (λ (x : Bool). x || (eqb b a && true)) (le-ltb b a (omega arith)) ∙ ap (λ (x : Bool). x && true) (ne-eqb b a (λ q. omega arith))
-sides false true a b h = absurd (no h)
-sides true false a b h =
-    let l : 0 < a + b = ltb-true _ _ h in
-    by-case (eqb b a)
-    (λ q. let e : b ≡ a = eqb-true _ _ q in ap (λ (x : Bool). x && eqb b 0) q ∙ ne-eqb b 0 (λ z. omega arith))
-    (λ q. ap (λ (x : Bool). x && eqb b 0) q)
-sides true true a b h =
-    let l : b < a = ltb-true _ _ h in
-    ap (λ (x : Bool). x || (eqb b a && true)) (le-ltb a b (omega arith)) ∙ ap (λ (x : Bool). x && true) (ne-eqb b a (λ q. omega arith))
-
-pub lt-not-le : (x y : Float) → lt x y ≡ true → le y x ≡ false
-unfolding lt le eq
-lt-not-le nan y h = absurd (no h)
-lt-not-le (inf s) nan h = absurd (no h)
-lt-not-le (inf true) (inf true) h = absurd (no h)
-lt-not-le (inf true) (inf false) h = refl
-lt-not-le (inf false) (inf t) h = absurd (no h)
-lt-not-le (inf true) (fin t n d) h = refl
-lt-not-le (inf false) (fin t n d) h = absurd (no h)
-lt-not-le (fin s m e) nan h = absurd (no h)
-lt-not-le (fin s m e) (inf true) h = absurd (no h)
-lt-not-le (fin s m e) (inf false) h = refl
-lt-not-le (fin s m e) (fin t n d) h = sides s t (m * up e * down d) (n * up d * down e) h
+use Rattle.waiting.specs.declared.Waited.{Waited}
+use Rattle.waiting.specs.Waiting.{startsOf, shapeStarts, nothingDue, clockAfter, waitedOf, startsFor, tempoFor}
 
 -- ---- before every start
 both : (t u : Bool) → pick t u false ≡ true → (t ≡ true) × (u ≡ true)
@@ -59,9 +26,9 @@ unfolding pick
 both true u h = (refl, h)
 both false u h = absurd (no h)
 
-parts : (s : Starts) (r : Float) → isCalm s r ≡ true → (lt r (s .first) ≡ true) × (lt r (s .second) ≡ true) × (lt r (s .third) ≡ true)
-unfolding isCalm
-parts s r h =
+before-each : (s : Starts) (r : Float) → nothingDue s r ≡ true → (lt r (s .first) ≡ true) × (lt r (s .second) ≡ true) × (lt r (s .third) ≡ true)
+unfolding nothingDue
+before-each s r h =
     let a = both (lt r (s .first)) (pick (lt r (s .second)) (lt r (s .third)) false) h in
     let b = both (lt r (s .second)) (lt r (s .third)) (a .1) in
     (a .0, b .0, b .1)
@@ -83,39 +50,49 @@ cloud-none : (e : Engine) (r : Float) → lt r (referenceOf (e .next .opportunit
 unfolding cloudOf
 cloud-none e r h = sym (skipped _ _ _ _ (lt-not-le r (referenceOf (e .next .opportunity)) h) refl)
 
-shape-none : (shape : Shape) (e : Engine) (r : Float) → isCalm (shapeStarts shape (e .streams) (e .next .opportunity)) r ≡ true → byShape shape e r ≡ e
+shape-none : (shape : Shape) (e : Engine) (r : Float) → nothingDue (shapeStarts shape (e .streams) (e .next .opportunity)) r ≡ true → byShape shape e r ≡ e
 unfolding byShape shapeStarts
-shape-none Sprinkle e r h = let p = parts (shapeStarts Sprinkle (e .streams) (e .next .opportunity)) r h in lanes-none e r (p .0) (p .1) (p .2)
-shape-none Cloud e r h = cloud-none e r (parts (shapeStarts Cloud (e .streams) (e .next .opportunity)) r h .0)
+shape-none Sprinkle e r h = let p = before-each (shapeStarts Sprinkle (e .streams) (e .next .opportunity)) r h in lanes-none e r (p .0) (p .1) (p .2)
+shape-none Cloud e r h = cloud-none e r (before-each (shapeStarts Cloud (e .streams) (e .next .opportunity)) r h .0)
 
-pub delivered-none : (e : Engine) → isCalm (startsFor e) (referenceNow (e .clock)) ≡ true → deliveredOf e ≡ e
+pub delivered-none : (e : Engine) → nothingDue (startsFor e) (referenceNow (e .clock)) ≡ true → deliveredOf e ≡ e
 unfolding deliveredOf startsOf
 delivered-none e h =
     let r = referenceNow (e .clock) in
     by-case (e .config .scheduled)
-    (λ t. sym (took _ _ _ _ t (sym (shape-none (e .config .shape) e r (ap (λ (s : Starts). isCalm s r) (picked (e .config .scheduled) _ _ t) ∙ h)))))
+    (λ t. sym (took _ _ _ _ t (sym (shape-none (e .config .shape) e r (ap (λ (s : Starts). nothingDue s r) (picked (e .config .scheduled) _ _ t) ∙ h)))))
     (λ f. sym (skipped _ _ _ _ f refl))
 
-ticked : (e : Engine) (m : Clock) → tickedOf (withClock e m) ≡ withClock e (passedOf (tempoFor e) m)
-unfolding tickedOf passedOf
-ticked e m = refl
+ticked : (e : Engine) (k : Clock) → tickedOf (withClock e k) ≡ withClock e (clockAfter (tempoFor e) k)
+unfolding tickedOf clockAfter
+ticked e k = refl
 
--- ---- any number of such samples
-pub quiet-run : (e : Engine) (n : ℕ) → ((j : ℕ) → j < n → isCalm (startsFor e) (referenceNow (iterate (passedOf (tempoFor e)) j (e .clock))) ≡ true)
-    → iterate steppedOf n e ≡ withClock e (iterate (passedOf (tempoFor e)) n (e .clock))
-unfolding iterate steppedOf
-quiet-run e zero q = refl
-quiet-run e (suc n) q =
-    let m = iterate (passedOf (tempoFor e)) n (e .clock) in
-    ap steppedOf (quiet-run e n (λ j l. q j (omega arith))) ∙ ap tickedOf (delivered-none (withClock e m) (q n (omega arith))) ∙ ticked e m
+-- ---- a sample at which nothing is due moves the clock alone
+pub stepped-clock : (e : Engine) (k : Clock) → nothingDue (startsFor e) (referenceNow k) ≡ true → steppedOf (withClock e k) ≡ withClock e (clockAfter (tempoFor e) k)
+unfolding steppedOf
+stepped-clock e k h = ap tickedOf (delivered-none (withClock e k) h) ∙ ticked e k
 
-pub waited : (e : Engine) (n count : ℕ) (m : Clock) → Passed (startsFor e) (passedOf (tempoFor e)) (e .clock) n count m → withClock e m ≡ iterate steppedOf count e
-waited e n count m p = ap (withClock e) (p .is) ∙ sym (quiet-run e count (p .calm))
+-- so do those of `wait`
+abbrev Stepped : Engine → Clock → Waited → Type 0
+Stepped e k w = withClock e (w .clock) ≡ iterate steppedOf (w .count) (withClock e k)
+
+waited-stepped : (e : Engine) (n : ℕ) (k : Clock) → Stepped e k (waitedOf (startsFor e) (tempoFor e) n k)
+unfolding waitedOf
+waited-stepped e zero k = iterate-none steppedOf _
+waited-stepped e (suc n) k =
+    by-case (nothingDue (startsFor e) (referenceNow k))
+    (λ h.
+    let k′ = clockAfter (tempoFor e) k in
+    let w = waitedOf (startsFor e) (tempoFor e) n k′ in
+    subst (Stepped e k) (picked _ _ _ h)
+    (waited-stepped e n k′ ∙ ap (iterate steppedOf (w .count)) (iterate-more steppedOf 0 _ _ _ (iterate-none steppedOf _) (sym (stepped-clock e k h))) ∙ iterate-add steppedOf 1 (w .count) (withClock e k)))
+    (λ h. subst (Stepped e k) (passed _ _ _ h) (iterate-none steppedOf _))
 
 -- the same after i samples, with the starts and the tempo as a caller has them
-pub waited-after : (e₀ e : Engine) (i n count : ℕ) (s : Starts) (t : Tempo) (m : Clock) → e ≡ iterate steppedOf i e₀ → s ≡ startsFor e → t ≡ tempoFor e → Passed s (passedOf t) (e .clock) n count m
-    → withClock e m ≡ iterate steppedOf (i + count) e₀
-waited-after e₀ e i n count s t m h p q w =
-    waited e n count m (subst (λ (z : Starts). Passed z (passedOf (tempoFor e)) (e .clock) n count m) p (subst (λ (z : Tempo). Passed s (passedOf z) (e .clock) n count m) q w))
-    ∙ ap (λ (z : Engine). iterate steppedOf count z) h
-    ∙ iterate-add steppedOf i count e₀
+pub waited-after : (e₀ e : Engine) (i n : ℕ) (s : Starts) (t : Tempo) (w : Waited) → e ≡ iterate steppedOf i e₀ → s ≡ startsFor e → t ≡ tempoFor e → w ≡ waitedOf s t n (e .clock)
+    → withClock e (w .clock) ≡ iterate steppedOf (i + w .count) e₀
+waited-after e₀ e i n s t w h p q v =
+    let is : w ≡ waitedOf (startsFor e) (tempoFor e) n (e .clock) = v ∙ ap (λ (z : Starts). waitedOf z t n (e .clock)) p ∙ ap (λ (z : Tempo). waitedOf (startsFor e) z n (e .clock)) q in
+    subst (Stepped e (e .clock)) (sym is) (waited-stepped e n (e .clock))
+    ∙ ap (λ (z : Engine). iterate steppedOf (w .count) z) h
+    ∙ iterate-add steppedOf i (w .count) e₀

@@ -1,7 +1,7 @@
--- `same` meets its contract: the two patterns.
+-- `same_bits` meets its contract: the two patterns.
 use borrow.Author.Needs.{needs}
-use Rattle.waiting.proofs.same.Statement.{statement}
-use Rattle.waiting.proofs.same.Tie as tie
+use Rattle.waiting.proofs.same_bits.Statement.{statement}
+use Rattle.waiting.proofs.same_bits.Tie as tie
 
 bits64-requires : tie.Need-bits64-requires
 bits64-requires c κs = search needs
@@ -12,5 +12,5 @@ bits64-requires-2 c κs = search needs
 returns : tie.Need-returns
 returns c = rw (c .bits642 .ensures, c .before .bits64 .ensures)
 
-pub same-spec : {M : Type 1} → statement M
-same-spec = tie.close (tie.spec bits64-requires bits64-requires-2 returns)
+pub same-bits-spec : {M : Type 1} → statement M
+same-bits-spec = tie.close (tie.spec bits64-requires bits64-requires-2 returns)

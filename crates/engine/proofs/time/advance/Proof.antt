@@ -6,7 +6,8 @@ use Rattle.lists.specs.Pick.{took, skipped}
 use Rattle.lists.specs.Times.{iterate, iterate-none, iterate-more}
 use borrow.Author.Tests.{le-leb, lt-leb}
 use Rattle.delivery.specs.Sample.{steppedOf}
-use Rattle.waiting.proofs.Quiet.{waited-after}
+use Rattle.waiting.proofs.NothingDue.{waited-after}
+use Rattle.waiting.proofs.Waits.{waited-few}
 use Rattle.engine.specs.Advance.{advancedOf}
 use Rattle.state.specs.State.{taken}
 use borrow.Author.Needs.{needs}
@@ -49,7 +50,7 @@ wait-requires : tie.Need-wait-requires Inv-loop μ-loop
 wait-requires c κs = search needs
 
 add-i : tie.Need-add-i Inv-loop μ-loop
-add-i c = let few = c .before .before .wait .ensures .few in let m = c .before .before .before .before .before .before .before .before .loop .inv .0 in omega arith
+add-i c = let few = waited-few _ _ _ _ _ (c .before .before .wait .ensures) in let m = c .before .before .before .before .before .before .before .before .loop .inv .0 in omega arith
 
 returns-3 : tie.Need-returns-3 Inv-loop μ-loop
 unfolding advancedOf
@@ -60,7 +61,7 @@ returns-3 c =
     let h : a .engine .clock .sample + a .samples ≤ 2 ^ 40 = omega arith in
     took _ _ _ _ (le-leb _ _ h)
     (ap taken
-    (waited-after _ _ _ _ _ _ _ _ (m .1) (c .before .before .before .before .before .next-starts .ensures) (c .before .before .before .before .tempo-of .ensures) w ∙ ap (λ (k : ℕ). iterate steppedOf k (a .engine)) (c .if3 .taken)))
+    (waited-after _ _ _ _ _ _ _ (m .1) (c .before .before .before .before .before .next-starts .ensures) (c .before .before .before .before .tempo-of .ensures) w ∙ ap (λ (k : ℕ). iterate steppedOf k (a .engine)) (c .if3 .taken)))
 
 step-requires : tie.Need-step-requires Inv-loop μ-loop
 step-requires c κs = search needs
@@ -70,23 +71,23 @@ add-i-2 c =
     let a = c .before .before .before .before .before .before .before .before .before .before .before .before .before .before .args in
     let l = c .before .before .before .before .before .before .before .before .before .before .loop in
     let w = c .before .before .before .before .wait in
-    let few : w .result .count ≤ a .samples - l .i = w .ensures .few in
+    let few : w .result .count ≤ a .samples - l .i = waited-few _ _ _ _ _ (w .ensures) in
     let below : l .i ≤ a .samples = l .inv .0 in
     let top : a .samples ≤ 2 ^ 40 = c .before .before .before .before .before .before .before .before .before .before .before .before .before .if1 .left in
     let other : l .i + w .result .count ≡ a .samples → ⊥ = c .before .if3 .left in
     omega arith
 
 loop-less : tie.Need-loop-less Inv-loop μ-loop
-loop-less c = let few = c .before .before .before .before .wait .ensures .few in let m = c .before .before .before .before .before .before .before .before .before .before .loop .inv .0 in omega arith
+loop-less c = let few = waited-few _ _ _ _ _ (c .before .before .before .before .wait .ensures) in let m = c .before .before .before .before .before .before .before .before .before .before .loop .inv .0 in omega arith
 
 loop-again : tie.Need-loop-again Inv-loop μ-loop
 loop-again c =
     let m = c .before .before .before .before .before .before .before .before .before .before .loop .inv in
     let w = c .before .before .before .before .wait .ensures in
-    let few = w .few in
+    let few = waited-few _ _ _ _ _ w in
     let below = m .0 in (
       omega arith,
-      iterate-more steppedOf _ _ _ _ (waited-after _ _ _ _ _ _ _ _ (m .1) (c .before .before .before .before .before .before .next-starts .ensures) (c .before .before .before .before .before .tempo-of .ensures) w) (c .step .ensures),
+      iterate-more steppedOf _ _ _ _ (waited-after _ _ _ _ _ _ _ (m .1) (c .before .before .before .before .before .before .next-starts .ensures) (c .before .before .before .before .before .tempo-of .ensures) w) (c .step .ensures),
     )
 
 pub advance-spec : {M : Type 1} → statement M
