@@ -1,5 +1,6 @@
 //! A list of calls, as a script for the port and on the original's engine.
 use crate::particles::{Config, Engine, Shape, Source};
+use std::hint::black_box;
 
 pub const RATE: f32 = 48_000.0;
 
@@ -10,6 +11,7 @@ pub enum Call {
     Trigger(u16),
     Advance(u32),
     Frame(f32),
+    NoteInput(bool),
 }
 
 /// Field by field as 01's table has them.
@@ -33,6 +35,7 @@ pub fn script(calls: &[Call]) -> Vec<u8> {
                 value.extend(seconds.to_bits().to_be_bytes());
                 field(&mut bytes, 9, &value);
             }
+            Call::NoteInput(present) => field(&mut bytes, 10, &[present.into()]),
         }
     }
     bytes
@@ -83,6 +86,7 @@ pub fn original(calls: &[Call]) -> f32 {
             Call::Trigger(slot) => engine.trigger(slot.into()),
             Call::Advance(samples) => engine.advance(samples as usize),
             Call::Frame(seconds) => activity = engine.frame(BIN_HZ, seconds).activity,
+            Call::NoteInput(present) => engine.set_note_input_present(black_box(present)),
         }
     }
     activity

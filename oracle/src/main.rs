@@ -60,11 +60,12 @@ oracle port < script              the listing that the port prints
 oracle bytes < script             the last frame's 2,308 bytes; the status is the entry's answer
 oracle state [HOW] < script       every field of the state by name, after every field
 oracle gen SEED KIND > script     a script
+oracle longer SEED KIND > script  the same with ten times the samples in every advance
 oracle start SEED KIND            the late start of that script
 oracle kinds                      the kinds of scripts
-oracle compare N BASE STEPS       compares the port with the original on N scripts, each as far as a run has at
-                                  most so many samples and fields; BASE chooses all seeds; status 1 on a
-                                  difference, or where something can't be compared
+oracle compare N BASE STEPS       compares the port with the original on N scripts, as they are and longer, each
+                                  as far as a run has at most so many samples and fields; BASE chooses all seeds;
+                                  status 1 on a difference, or where something can't be compared
 oracle calls SEED N               N rounds of single functions of the original, arguments and answers
 oracle masks SEED N               N mask calls, bin tables and attenuations, as short numbers
 oracle stored FOLDER < list       the scripts of a list with their answers; examples stand in FOLDER
@@ -119,13 +120,14 @@ fn command(words: &[&str]) -> io::Result<u8> {
             Some((start, true)) => state::state::<plain::Engine>(start, &input()?, &mut out)?,
             None => return usage(),
         },
-        [what @ ("gen" | "start"), seed, name] => {
+        [what @ ("gen" | "longer" | "start"), seed, name] => {
             let (Ok(seed), Some(kind)) = (seed.parse(), gen::named(name)) else {
                 return usage();
             };
             let script = gen::script(seed, kind);
             match *what {
                 "gen" => out.write_all(&script)?,
+                "longer" => out.write_all(&gen::longer(&script))?,
                 _ => writeln!(out, "{}", late::start(seed, &script))?,
             }
         }

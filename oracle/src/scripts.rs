@@ -3,7 +3,7 @@ use crate::bytes::{last_frame, SIZE};
 use crate::compare::Sum;
 use crate::draws::Draws;
 use crate::ends::{ends, up_to, End};
-use crate::gen::{script, KINDS};
+use crate::gen::{longer, script, KINDS};
 use crate::left::Left;
 use crate::listing::listing;
 use crate::original::Engine;
@@ -11,6 +11,7 @@ use crate::part::Part;
 use crate::runner::SCRIPT_LIMIT;
 use crate::{late, plain, port};
 use std::io::{self, Write};
+use std::iter;
 
 /// So many scripts also run with std's functions, to show what the substitution changes.
 const PLAIN: u64 = 300;
@@ -84,8 +85,8 @@ struct Ends {
     fields: Vec<End>,
 }
 
-/// Compares `count` scripts, each as far as a run has at most `limit` steps. The seeds are those from
-/// `base` on.
+/// Compares `count` scripts, as they are and with ten times the samples, each as far as a run has at
+/// most `limit` steps. The seeds are those from `base` on.
 pub fn compare<W: Write>(count: u64, base: u64, limit: u64, sum: &mut Sum<W>) -> io::Result<()> {
     let mut entry = Part::new("the script entry rk_script".into(), port::ENTRY);
     let mut new = Started::new(
@@ -104,34 +105,39 @@ pub fn compare<W: Write>(count: u64, base: u64, limit: u64, sum: &mut Sum<W>) ->
         let kind = &KINDS[(n % KINDS.len() as u64) as usize];
         let seed = base.wrapping_add(n / KINDS.len() as u64);
         let bytes = script(seed, kind);
-        let name = format!("gen {seed} {}", kind.name);
         if n < PLAIN {
             let plain = listing::<plain::Engine>(0, &bytes);
             same_plain += u64::from(plain == listing::<Engine>(0, &bytes));
         }
-        let found = new.compare(&name, 0, &bytes, limit);
-        // A shorter script shows a frame in the middle.
-        let some = match found.fields.as_slice() {
-            [] => 0,
-            fields => Draws::new(base.wrapping_add(n), "ends").pick(fields).bytes,
-        };
-        for end in [found.whole, some] {
-            for room in ROOMS {
-                if let Some(same) = entry_same(&bytes[..end], room) {
-                    let case = format_args!("{name}, first {end} bytes, room {room}");
-                    entry.add(case, same);
+        // Without an advance there is no longer one.
+        let long = Some(longer(&bytes)).filter(|long| *long != bytes);
+        let long = long.map(|long| ("longer", long));
+        for (what, bytes) in iter::once(("gen", bytes)).chain(long) {
+            let name = format!("{what} {seed} {}", kind.name);
+            let found = new.compare(&name, 0, &bytes, limit);
+            // A shorter script shows a frame in the middle.
+            let some = match found.fields.as_slice() {
+                [] => 0,
+                fields => Draws::new(base.wrapping_add(n), "ends").pick(fields).bytes,
+            };
+            for end in [found.whole, some] {
+                for room in ROOMS {
+                    if let Some(same) = entry_same(&bytes[..end], room) {
+                        let case = format_args!("{name}, first {end} bytes, room {room}");
+                        entry.add(case, same);
+                    }
                 }
             }
+            let start = late::start(seed, &bytes);
+            let name = format!("{name}, from {start}");
+            late.compare(&name, start, &bytes, limit);
         }
-        let start = late::start(seed, &bytes);
-        let name = format!("{name}, from {start}");
-        late.compare(&name, start, &bytes, limit);
     }
     for (what, runs) in [("new engines", &new.runs), ("late starts", &late.runs)] {
         let Runs { compared, cut } = runs;
         sum.line(&format!(
             "on {what} {compared} scripts with what every field leaves, {cut} of them cut where a \
-             run would have more than {limit} samples and fields"
+             run would have more than {limit} samples, a field counted as ten"
         ))?;
     }
     sum.script_part(&entry)?;

@@ -3,3 +3,4 @@ pub mod Values
 pub mod Sat
 pub mod Pack
 pub mod Narrow
+pub mod SameBits

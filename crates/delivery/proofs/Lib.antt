@@ -1,1 +1,2 @@
 pub mod Tries
+pub mod Untouched

@@ -1,7 +1,10 @@
 // One sample: the births that it delivers, and how the offset moves.
 ghost use mathlib.Core.Path.{_≡_};
 ghost use mathlib.Core.Bool.{false};
+ghost use lib.Ieee.{binary64};
 ghost use Rattle.lists.specs.Pick.{pick};
+ghost use Rattle.floats.specs.Names.{f64};
+ghost use Rattle.floats.specs.Remainder.{remEuclid};
 ghost use Rattle.delivery.specs.Sample.{lanesOf, opportunityAfter, cloudOf, glidedOf};
 use state::Engine;
 
@@ -81,11 +84,23 @@ pub fn cloud(engine: Engine, reference: f64) -> Engine
     engine
 }
 
+// Whole cycles taken off. While an offset glides it has nearly always none, and this no remainder.
+fn within_a_cycle(x: f64) -> f64
+    ensures { λ r. ⌜ r ≡ remEuclid binary64 x (f64 0x3ff0000000000000) ⌝ }
+{
+    if x >= 0.0 {
+        if x < 1.0 {
+            return x;
+        }
+    }
+    floats::rem_euclid64(x, 1.0)
+}
+
 // The offset glides to the setting by the shorter way.
 pub fn glide(phase_offset: f64, phase: f32, alpha: f64) -> f64
     ensures { λ r. ⌜ r ≡ glidedOf «phase_offset» phase alpha ⌝ }
 {
     let to = floats::f32_to_f64(phase) - phase_offset + 0.5;
-    let difference = floats::rem_euclid64(to, 1.0) - 0.5;
+    let difference = within_a_cycle(to) - 0.5;
     phase_offset + difference * alpha
 }

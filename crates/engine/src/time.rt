@@ -53,7 +53,7 @@ pub fn advance(engine: Engine, samples: u64) -> Done
             }
         }
         let now = out.clock;
-        let after = waiting::pass(now, tempo);
+        let after = waiting::clock_after(now, tempo);
         out.clock = after;
         i = i + 1;
     }

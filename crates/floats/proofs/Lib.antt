@@ -6,3 +6,5 @@ pub mod Rem
 pub mod Once
 pub mod RemExact
 pub mod Division
+pub mod Below
+pub mod Inside

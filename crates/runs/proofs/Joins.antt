@@ -15,7 +15,7 @@ use Rattle.state.specs.declared.Engine.{Engine}
 use Rattle.state.specs.State.{grown, taken}
 use Rattle.delivery.specs.Sample.{steppedOf}
 use Rattle.engine.specs.Advance.{advancedOf}
-use Rattle.runs.proofs.Births.{stepped-sample}
+use Rattle.delivery.proofs.Untouched.{stepped-sample}
 
 pub grown-small : (n : ℕ) → n < 2 ^ 40 → grown n ≡ n + 1
 grown-small n h = omega arith

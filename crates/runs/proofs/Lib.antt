@@ -1,4 +1,3 @@
-pub mod Births
 pub mod Chosen
 pub mod Frames
 pub mod Joins

@@ -31,7 +31,7 @@ use Rattle.frame.specs.Frame.{accepted}
 use Rattle.frame_laws.proofs.Background.{activity-unit}
 use Rattle.runs.specs.Acts.{Act, birth, retire, retireBound, retune, frame, source, streams, next, clock, weights, settings, act, perform, triedActs, laneActs, shapeActs, deliverActs, sampleActs, advanceActs, restartActs, weighActs, switchActs, offsetActs, configureActs, checkedActs, triggerActs, Call, configure, noteInput, setSource, retireSource, releaseSource, trigger, reserve, reserved, seek, advance, takeFrame, Singles, Typed, actsOf}
 use Rattle.lists.specs.Every.{every-getD, in-case}
-use Rattle.runs.proofs.Births.{delivered-keeps}
+use Rattle.delivery.proofs.Untouched.{delivered-keeps}
 use Rattle.runs.proofs.Joins.{steps-count, grown-small}
 use Rattle.runs.proofs.Sound.{Sound, Settled, Sounding, past-formed}
 use Rattle.runs.proofs.Kept.{held-retire-bound, held-retune-one}

@@ -28,7 +28,7 @@ use Rattle.changes.specs.Changes.{retiredAll, reweighed, switched, offset, soug
 use Rattle.triggers.specs.Triggers.{reservedOf}
 use Rattle.frame.specs.Call.{renewedOf}
 use Rattle.runs.specs.Acts.{Act, birth, retire, retireBound, retune, frame, source, streams, next, clock, weights, settings, act, perform, triedActs, laneActs, shapeActs, deliverActs, sampleActs, advanceActs, restartActs, weighActs, switchActs, offsetActs, configureActs, checkedActs, triggerActs, Call, configure, noteInput, setSource, retireSource, releaseSource, trigger, reserve, reserved, seek, advance, takeFrame, Typed, actsOf}
-use Rattle.runs.proofs.Births.{delivered-keeps}
+use Rattle.delivery.proofs.Untouched.{delivered-keeps}
 use Rattle.runs.proofs.Joins.{steps-count}
 use Rattle.runs.proofs.Sound.{Sound, Settled}
 use Rattle.runs.proofs.Stays.{sound-config}

@@ -18,7 +18,7 @@ use Rattle.state.specs.declared.Engine.{Engine}
 use Rattle.state.specs.State.{withClock, withStreams}
 use Rattle.delivery.specs.Sample.{triedOf, laneOf, lanesOf, opportunityAfter, withOpportunity, cloudOf, byShape, deliveredOf, tickedOf, steppedOf}
 use Rattle.engine.specs.Advance.{advancedOf}
-use Rattle.runs.proofs.Births.{delivered-keeps}
+use Rattle.delivery.proofs.Untouched.{delivered-keeps}
 use Rattle.runs.proofs.Joins.{steps-count, grown-small}
 use Rattle.lists.specs.Every.{every-imp, in-case}
 use Rattle.runs.proofs.Sound.{Sound, Held, fit-later}

@@ -35,7 +35,7 @@ use Rattle.frame.specs.Call.{renewedOf, takenOf, refusedOf, framedOf}
 use Rattle.frame_laws.proofs.Newborn.{engine-logs}
 use Rattle.frame_laws.proofs.Shapes.{Logs}
 use Rattle.runs.specs.Acts.{Singles, Call, configure, noteInput, setSource, retireSource, releaseSource, trigger, reserve, reserved, seek, advance, takeFrame, Typed, applied}
-use Rattle.runs.proofs.Births.{born-keeps, delivered-keeps}
+use Rattle.delivery.proofs.Untouched.{born-keeps, delivered-keeps}
 use Rattle.runs.proofs.Sound.{Made, Settled, Sound}
 use Rattle.runs.proofs.Rolloffs.{weights-level}
 

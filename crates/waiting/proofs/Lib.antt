@@ -1,4 +1,3 @@
-pub mod Bits
-pub mod Passing
-pub mod Quiet
+pub mod Waits
+pub mod NothingDue
 pub mod Delivered

@@ -3,7 +3,7 @@ ghost use mathlib.Core.Path.{_≡_};
 ghost use lib.Dec.{eqb};
 ghost use lib.Ieee.{binary64, toBits};
 ghost use Rattle.delivery.specs.Sample.{glidedOf};
-ghost use Rattle.waiting.specs.Waiting.{startsOf, isCalm, tempoOf, passedOf, nowOf, Passed};
+ghost use Rattle.waiting.specs.Waiting.{startsAt, startsOf, nothingDue, tempoOf, clockAfter, waitedOf, Underway};
 use settings::Config;
 use settings::Shape;
 use state::Clock;
@@ -30,8 +30,8 @@ pub struct Waited {
     pub count: u64,
 }
 
-fn at(first: f64, second: f64, third: f64) -> Starts
-    ensures { λ r. ⌜ r ≡ nowOf first second third ⌝ }
+fn starts_at(first: f64, second: f64, third: f64) -> Starts
+    ensures { λ r. ⌜ r ≡ startsAt first second third ⌝ }
 {
     Starts {
         first,
@@ -51,16 +51,16 @@ pub fn next_starts(config: Config, streams: [SprinkleStream; 3], opportunity: u6
                 let first = streams[0];
                 let second = streams[1];
                 let third = streams[2];
-                at(first.next, second.next, third.next)
+                starts_at(first.next, second.next, third.next)
             }
             Shape::Cloud => {
                 let next = timing::timing_reference(opportunity);
-                at(next, next, next)
+                starts_at(next, next, next)
             }
         };
     }
     let never = floats::of_bits64(0x7ff0_0000_0000_0000);
-    at(never, never, never)
+    starts_at(never, never, never)
 }
 
 pub fn tempo_of(config: Config, sample_rate: f64, phase_alpha: f64) -> Tempo
@@ -75,8 +75,8 @@ pub fn tempo_of(config: Config, sample_rate: f64, phase_alpha: f64) -> Tempo
 }
 
 // The clock after a sample: the phase, only when births are scheduled, the offset and the count.
-pub fn pass(clock: Clock, tempo: Tempo) -> Clock
-    ensures { λ r. ⌜ r ≡ passedOf tempo clock ⌝ }
+pub fn clock_after(clock: Clock, tempo: Tempo) -> Clock
+    ensures { λ r. ⌜ r ≡ clockAfter tempo clock ⌝ }
 {
     let sample = std::num::wrapping_add_u64(clock.sample, 1);
     let phase = floats::pick64(tempo.scheduled, clock.phase + tempo.step, clock.phase);
@@ -89,8 +89,8 @@ pub fn pass(clock: Clock, tempo: Tempo) -> Clock
 }
 
 // Before every start.
-fn calm(reference: f64, starts: Starts) -> bool
-    ensures { λ r. ⌜ r ≡ isCalm starts reference ⌝ }
+fn nothing_due(reference: f64, starts: Starts) -> bool
+    ensures { λ r. ⌜ r ≡ nothingDue starts reference ⌝ }
 {
     if reference < starts.first {
         if reference < starts.second {
@@ -103,24 +103,24 @@ fn calm(reference: f64, starts: Starts) -> bool
     }
 }
 
-// By their bits: the zeros differ, and a NaN is itself.
-fn same(a: f64, b: f64) -> bool
+// The zeros differ, and a NaN is itself.
+fn same_bits(a: f64, b: f64) -> bool
     ensures { λ r. ⌜ r ≡ eqb (toBits binary64 a) (toBits binary64 b) ⌝ }
 {
     floats::bits64(a) == floats::bits64(b)
 }
 
 // With an offset that stays: one sum a sample.
-fn rest(clock: Clock, starts: Starts, tempo: Tempo, n: u64) -> Waited
+fn wait_at_rest(clock: Clock, starts: Starts, tempo: Tempo, n: u64) -> Waited
     requires { ⌜ glidedOf (clock .«phase_offset») (tempo .phase) (tempo .alpha) ≡ clock .«phase_offset» ⌝ }
-    ensures { λ r. ⌜ Passed starts (passedOf tempo) clock n (r .count) (r .clock) ⌝ }
+    ensures { λ r. ⌜ r ≡ waitedOf starts tempo n clock ⌝ }
 {
     let phase_offset = clock.phase_offset;
     let mut sample = clock.sample;
     let mut phase = clock.phase;
     let mut count: u64 = 0;
     while count < n {
-        if calm(phase + phase_offset, starts) {} else {
+        if nothing_due(phase + phase_offset, starts) {} else {
             break;
         }
         sample = std::num::wrapping_add_u64(sample, 1);
@@ -135,36 +135,83 @@ fn rest(clock: Clock, starts: Starts, tempo: Tempo, n: u64) -> Waited
     Waited { clock, count }
 }
 
-// At most n samples, up to the first at which something may be due.
+// With an offset that glides, as far as three operations a sample give the bits of `glide`, which has
+// five that wait for one another. `quick` is `glide` without the half that comes and goes, and with the
+// whole cycles taken off once for all; nearly always the two are the same. A sample goes on with
+// `quick`, so that the processor, which foresees the branch, works out `glide` beside the samples that
+// follow; a choice of one of the two would wait for both. It ends early where they differ, and where
+// the offset stays.
+fn wait_gliding(clock: Clock, starts: Starts, tempo: Tempo, n: u64) -> Waited
+    ensures { λ r. ⌜ Underway starts tempo n clock (r .count) (r .clock) ⌝ }
+{
+    let mut sample = clock.sample;
+    let mut phase = clock.phase;
+    let mut phase_offset = clock.phase_offset;
+    let setting = floats::f32_to_f64(tempo.phase);
+    let aim = setting - floats::floor64(setting - phase_offset + 0.5);
+    let mut count: u64 = 0;
+    while count < n {
+        if nothing_due(phase + phase_offset, starts) {} else {
+            break;
+        }
+        let quick = phase_offset + (aim - phase_offset) * tempo.alpha;
+        let later = delivery::glide(phase_offset, tempo.phase, tempo.alpha);
+        if same_bits(quick, later) {} else {
+            break;
+        }
+        if same_bits(quick, phase_offset) {
+            break;
+        }
+        sample = std::num::wrapping_add_u64(sample, 1);
+        phase = floats::pick64(tempo.scheduled, phase + tempo.step, phase);
+        phase_offset = quick;
+        count = count + 1;
+    }
+    let clock = Clock {
+        sample,
+        phase,
+        phase_offset,
+    };
+    Waited { clock, count }
+}
+
+// At most n samples, up to the first at which something is due.
 pub fn wait(clock: Clock, starts: Starts, tempo: Tempo, n: u64) -> Waited
-    ensures { λ r. ⌜ Passed starts (passedOf tempo) clock n (r .count) (r .clock) ⌝ }
+    ensures { λ r. ⌜ r ≡ waitedOf starts tempo n clock ⌝ }
 {
     let mut sample = clock.sample;
     let mut phase = clock.phase;
     let mut phase_offset = clock.phase_offset;
     let mut count: u64 = 0;
     while count < n {
-        if calm(phase + phase_offset, starts) {} else {
+        if nothing_due(phase + phase_offset, starts) {} else {
             break;
         }
         let later = delivery::glide(phase_offset, tempo.phase, tempo.alpha);
-        if same(later, phase_offset) {
+        if same_bits(later, phase_offset) {
             let here = Clock {
                 sample,
                 phase,
                 phase_offset,
             };
-            let more = rest(here, starts, tempo, n - count);
+            let more = wait_at_rest(here, starts, tempo, n - count);
             let clock = more.clock;
             return Waited {
                 clock,
                 count: count + more.count,
             };
         }
-        sample = std::num::wrapping_add_u64(sample, 1);
-        phase = floats::pick64(tempo.scheduled, phase + tempo.step, phase);
-        phase_offset = later;
+        let here = Clock {
+            sample: std::num::wrapping_add_u64(sample, 1),
+            phase: floats::pick64(tempo.scheduled, phase + tempo.step, phase),
+            phase_offset: later,
+        };
         count = count + 1;
+        let more = wait_gliding(here, starts, tempo, n - count);
+        sample = more.clock.sample;
+        phase = more.clock.phase;
+        phase_offset = more.clock.phase_offset;
+        count = count + more.count;
     }
     let clock = Clock {
         sample,

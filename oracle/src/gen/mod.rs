@@ -8,6 +8,7 @@ mod ties;
 pub mod values;
 
 use crate::draws::Draws;
+use crate::field::{read, Field};
 pub use ties::{index_with, top_of};
 
 pub struct Kind {
@@ -57,6 +58,20 @@ kinds! {
 
 pub fn script(seed: u64, kind: &Kind) -> Vec<u8> {
     (kind.make)(&mut Draws::new(seed, kind.name))
+}
+
+/// The same script with ten times the samples in every advance, as far as it can be read.
+pub fn longer(script: &[u8]) -> Vec<u8> {
+    let mut longer = script.to_vec();
+    let mut rest = script;
+    while let Ok((field, next)) = read(rest, rest.len() == script.len()) {
+        if let Field::Advance(samples) = field {
+            let end = script.len() - next.len();
+            longer[end - 4..end].copy_from_slice(&samples.saturating_mul(10).to_be_bytes());
+        }
+        rest = next;
+    }
+    longer
 }
 
 pub fn named(name: &str) -> Option<&'static Kind> {

@@ -8,7 +8,8 @@ use borrow.Author.Tests.{le-leb, lt-leb}
 use Rattle.delivery.specs.Sample.{steppedOf}
 use mathlib.Core.Logic.{⊎-elim}
 use Rattle.state.specs.State.{withClock}
-use Rattle.waiting.proofs.Quiet.{waited-after}
+use Rattle.waiting.proofs.NothingDue.{waited-after}
+use Rattle.waiting.proofs.Waits.{waited-few}
 use Rattle.waiting.proofs.Delivered.{by-lanes, by-cloud, by-none}
 use Rattle.engine.specs.Advance.{advancedOf}
 use Rattle.state.specs.State.{taken}
@@ -52,14 +53,14 @@ wait-requires : tie.Need-wait-requires Inv-loop μ-loop
 wait-requires c κs = search needs
 
 add-i : tie.Need-add-i Inv-loop μ-loop
-add-i c = let few = c .before .before .wait .ensures .few in let m = c .before .before .before .before .before .before .before .before .loop .inv .0 in omega arith
+add-i c = let few = waited-few _ _ _ _ _ (c .before .before .wait .ensures) in let m = c .before .before .before .before .before .before .before .before .loop .inv .0 in omega arith
 
 returns-3 : tie.Need-returns-3 Inv-loop μ-loop
 unfolding advancedOf
 returns-3 c =
     let a = c .before .before .before .before .before .before .before .before .before .before .before .before .before .args in
     let h : a .engine .clock .sample + a .samples ≤ 2 ^ 40 = omega arith in
-    took _ _ _ _ (le-leb _ _ h) (ap taken (waited-after _ _ _ _ _ _ _ _ (c .before .before .before .before .before .before .before .before .before .loop .inv .1) (c .before .before .before .before .before .next-starts .ensures) (c .before .before .before .before .tempo-of .ensures) (c .before .before .before .wait .ensures) ∙ ap (λ (k : ℕ). iterate steppedOf k (a .engine)) (c .if3 .taken)))
+    took _ _ _ _ (le-leb _ _ h) (ap taken (waited-after _ _ _ _ _ _ _ (c .before .before .before .before .before .before .before .before .before .loop .inv .1) (c .before .before .before .before .before .next-starts .ensures) (c .before .before .before .before .tempo-of .ensures) (c .before .before .before .wait .ensures) ∙ ap (λ (k : ℕ). iterate steppedOf k (a .engine)) (c .if3 .taken)))
 
 enum-told : tie.Need-enum-told Inv-loop μ-loop
 enum-told c = search needs
@@ -73,12 +74,12 @@ enum-told-2 c = search needs
 cloud-requires : tie.Need-cloud-requires Inv-loop μ-loop
 cloud-requires c κs = search needs
 
-pass-requires : tie.Need-pass-requires Inv-loop μ-loop
-pass-requires c κs = search needs
+clock-after-requires : tie.Need-clock-after-requires Inv-loop μ-loop
+clock-after-requires c κs = search needs
 
 add-i-2 : tie.Need-add-i-2 Inv-loop μ-loop
 add-i-2 c =
-    let few : c .before .before .before .before .before .before .wait .result .count ≤ c .before .before .before .before .before .before .before .before .before .before .before .before .before .before .before .before .args .samples - c .before .before .before .before .before .before .before .before .before .before .before .before .loop .i = c .before .before .before .before .before .before .wait .ensures .few in
+    let few : c .before .before .before .before .before .before .wait .result .count ≤ c .before .before .before .before .before .before .before .before .before .before .before .before .before .before .before .before .args .samples - c .before .before .before .before .before .before .before .before .before .before .before .before .loop .i = waited-few _ _ _ _ _ (c .before .before .before .before .before .before .wait .ensures) in
     let below : c .before .before .before .before .before .before .before .before .before .before .before .before .loop .i ≤ c .before .before .before .before .before .before .before .before .before .before .before .before .before .before .before .before .args .samples = c .before .before .before .before .before .before .before .before .before .before .before .before .loop .inv .0 in
     let top : c .before .before .before .before .before .before .before .before .before .before .before .before .before .before .before .before .args .samples ≤ 2 ^ 40 = c .before .before .before .before .before .before .before .before .before .before .before .before .before .before .before .if1 .left in
     let other : c .before .before .before .before .before .before .before .before .before .before .before .before .loop .i + c .before .before .before .before .before .before .wait .result .count ≡ c .before .before .before .before .before .before .before .before .before .before .before .before .before .before .before .before .args .samples → ⊥ = c .before .before .before .if3 .left in
@@ -86,7 +87,7 @@ add-i-2 c =
 
 loop-less : tie.Need-loop-less Inv-loop μ-loop
 loop-less c =
-    let few : c .before .before .before .before .before .before .wait .result .count ≤ c .before .before .before .before .before .before .before .before .before .before .before .before .before .before .before .before .args .samples - c .before .before .before .before .before .before .before .before .before .before .before .before .loop .i = c .before .before .before .before .before .before .wait .ensures .few in
+    let few : c .before .before .before .before .before .before .wait .result .count ≤ c .before .before .before .before .before .before .before .before .before .before .before .before .before .before .before .before .args .samples - c .before .before .before .before .before .before .before .before .before .before .before .before .loop .i = waited-few _ _ _ _ _ (c .before .before .before .before .before .before .wait .ensures) in
     let below : c .before .before .before .before .before .before .before .before .before .before .before .before .loop .i ≤ c .before .before .before .before .before .before .before .before .before .before .before .before .before .before .before .before .args .samples = c .before .before .before .before .before .before .before .before .before .before .before .before .loop .inv .0 in
     let top : c .before .before .before .before .before .before .before .before .before .before .before .before .before .before .before .before .args .samples ≤ 2 ^ 40 = c .before .before .before .before .before .before .before .before .before .before .before .before .before .before .before .if1 .left in
     let other : c .before .before .before .before .before .before .before .before .before .before .before .before .loop .i + c .before .before .before .before .before .before .wait .result .count ≡ c .before .before .before .before .before .before .before .before .before .before .before .before .before .before .before .before .args .samples → ⊥ = c .before .before .before .if3 .left in
@@ -94,7 +95,7 @@ loop-less c =
 
 loop-again : tie.Need-loop-again Inv-loop μ-loop
 loop-again c =
-    let few : c .before .before .before .before .before .before .wait .result .count ≤ c .before .before .before .before .before .before .before .before .before .before .before .before .before .before .before .before .args .samples - c .before .before .before .before .before .before .before .before .before .before .before .before .loop .i = c .before .before .before .before .before .before .wait .ensures .few in
+    let few : c .before .before .before .before .before .before .wait .result .count ≤ c .before .before .before .before .before .before .before .before .before .before .before .before .before .before .before .before .args .samples - c .before .before .before .before .before .before .before .before .before .before .before .before .loop .i = waited-few _ _ _ _ _ (c .before .before .before .before .before .before .wait .ensures) in
     let below : c .before .before .before .before .before .before .before .before .before .before .before .before .loop .i ≤ c .before .before .before .before .before .before .before .before .before .before .before .before .before .before .before .before .args .samples = c .before .before .before .before .before .before .before .before .before .before .before .before .loop .inv .0 in
     let top : c .before .before .before .before .before .before .before .before .before .before .before .before .before .before .before .before .args .samples ≤ 2 ^ 40 = c .before .before .before .before .before .before .before .before .before .before .before .before .before .before .before .if1 .left in
     let other : c .before .before .before .before .before .before .before .before .before .before .before .before .loop .i + c .before .before .before .before .before .before .wait .result .count ≡ c .before .before .before .before .before .before .before .before .before .before .before .before .before .before .before .before .args .samples → ⊥ = c .before .before .before .if3 .left in
@@ -103,7 +104,7 @@ loop-again c =
     let t = c .before .before .before .before .before .before .before .tempo-of .result in
     let tempo = c .before .before .before .before .before .before .before .tempo-of .ensures in
     let stepped =
-    ap (withClock d) (c .pass .ensures)
+    ap (withClock d) (c .clock-after .ensures)
     ∙ ⊎-elim
     (λ w. by-lanes e d t tempo (w .0 .taken) (w .3 .given .1) (w .5 ∙ w .4 .ensures))
     (⊎-elim
@@ -111,7 +112,7 @@ loop-again c =
     (λ w. by-none e d t tempo (w .0 .left) (w .1)))
     (c .before .before .if4 .came) in (
       omega arith,
-      iterate-more steppedOf _ _ _ _ (waited-after _ _ _ _ _ _ _ _ (c .before .before .before .before .before .before .before .before .before .before .before .before .loop .inv .1) (c .before .before .before .before .before .before .before .before .next-starts .ensures) (c .before .before .before .before .before .before .before .tempo-of .ensures) (c .before .before .before .before .before .before .wait .ensures)) stepped,
+      iterate-more steppedOf _ _ _ _ (waited-after _ _ _ _ _ _ _ (c .before .before .before .before .before .before .before .before .before .before .before .before .loop .inv .1) (c .before .before .before .before .before .before .before .before .next-starts .ensures) (c .before .before .before .before .before .before .before .tempo-of .ensures) (c .before .before .before .before .before .before .wait .ensures)) stepped,
     )
 
 pub advance-spec : {M : Type 1} → statement M
@@ -133,7 +134,7 @@ advance-spec =
     lanes-requires
     enum-told-2
     cloud-requires
-    pass-requires
+    clock-after-requires
     add-i-2
     loop-less
     loop-again)
