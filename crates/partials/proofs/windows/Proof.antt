@@ -75,8 +75,7 @@ loop2-again : tie.Need-loop2-again Inv-loop2 μ-loop2 Inv-loop μ-loop
 loop2-again c =
     let m = c .before .before .before .loop2 .inv .1 in
     let row = c .before .row .ensures in
-    let place = c .before .before .before .before .before .before .loop-test .taken in
-    let window = c .before .before .loop2-test .taken in (
+    let place = c .before .before .before .before .before .before .loop-test .taken in (
       search needs,
       ⊎-elim
           (λ u.
