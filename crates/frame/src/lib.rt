@@ -1,5 +1,6 @@
 // A frame: frees the places that are due, and shows every particle that holds one.
 ghost use mathlib.Core.Path.{_≡_};
+ghost use Rattle.state.specs.State.{withParticles};
 ghost use Rattle.frame.specs.Frame.{activityOf, accepted};
 ghost use Rattle.frame.specs.Call.{renewedOf, takenOf, refusedOf, framedOf};
 use pool::Particle;
@@ -52,18 +53,30 @@ fn renewed(engine: Engine, held: [Particle; 64], activity: f32) -> Engine
     out
 }
 
-fn taken(engine: Engine, bin_hz: f32, elapsed_seconds: f32) -> Framed
-    ensures { λ r. ⌜ r ≡ takenOf engine «bin_hz» «elapsed_seconds» ⌝ }
+// One pass over the places frees those that are due and works out what the particles in the others show.
+// A place is stored only where it is freed, so that the others aren't copied; and the pass stands here,
+// where no call has to hand both arrays on.
+fn taken(engine: Engine, particles: [Particle; 64], bin_hz: f32, elapsed_seconds: f32) -> Framed
+    ensures { λ r. ⌜ r ≡ takenOf (withParticles engine particles) «bin_hz» «elapsed_seconds» ⌝ }
 {
     let config = engine.config;
     let prepared = engine.prepared;
     let logs = prepared.partial_logs;
     let sample = engine.clock.sample;
     let rate = prepared.sample_rate;
-    let particles = engine.particles;
-    let seen = places::look(particles, sample, rate);
-    let held = seen.held;
-    let shown = seen.shown;
+    let free = pool::free_particle();
+    let nothing = places::nothing_shown();
+    let mut held = particles;
+    let mut shown = [nothing; 64];
+    for i in 0..64 {
+        let p = held[i];
+        if places::freed(p, sample, rate) {
+            held[i] = free;
+            shown[i] = nothing;
+        } else {
+            shown[i] = places::show(p, sample, rate);
+        }
+    }
     let windows = partials::windows(shown, logs, bin_hz, voices::max_hz(rate));
     let activity = activity(engine.activity, config.enabled, elapsed_seconds);
     let frame = Frame { windows, activity };
@@ -91,7 +104,8 @@ pub fn take_frame(engine: Engine, bin_hz: f32, elapsed_seconds: f32) -> Framed
     ensures { λ r. ⌜ r ≡ framedOf engine «bin_hz» «elapsed_seconds» ⌝ }
 {
     if accepts(elapsed_seconds) {
-        return taken(engine, bin_hz, elapsed_seconds);
+        let particles = engine.particles;
+        return taken(engine, particles, bin_hz, elapsed_seconds);
     }
     refused(engine)
 }

@@ -1,3 +1,2 @@
 pub mod Freed
 pub mod Shown
-pub mod Seen

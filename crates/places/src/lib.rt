@@ -3,7 +3,6 @@ ghost use mathlib.Core.Path.{_≡_};
 ghost use mathlib.Core.Bool.{_&&_};
 ghost use Rattle.places.specs.Freed.{secondsOf, retirementOf, dueOf};
 ghost use Rattle.places.specs.Shown.{powerOf, envelopeOf, fadeOf, amplitudeOf, nothing, shownOf};
-ghost use Rattle.places.specs.Seen.{seenOf};
 use pool::Particle;
 use pool::Retired;
 
@@ -15,12 +14,6 @@ pub struct Shown {
     pub amplitude: f32,
     pub width: f32,
     pub partials: [u8; 3],
-}
-
-// The places after a frame, and what each shows in it.
-pub struct Seen {
-    pub held: [Particle; 64],
-    pub shown: [Shown; 64],
 }
 
 // Below 2^32 samples, a day at 48 kHz, one instruction makes the float.
@@ -54,7 +47,7 @@ fn due(p: Particle, sample: u64, rate: f64) -> bool
 }
 
 // Whether a frame frees the place.
-fn freed(p: Particle, sample: u64, rate: f64) -> bool
+pub fn freed(p: Particle, sample: u64, rate: f64) -> bool
     ensures { λ r. ⌜ r ≡ (p .active && dueOf sample rate p) ⌝ }
 {
     if p.active {
@@ -99,7 +92,7 @@ fn amplitude(p: Particle, sample: u64, rate: f64) -> f32
     p.strength * envelope(x, p.attack, p.decay_power) * fade(p, sample, rate)
 }
 
-fn nothing_shown() -> Shown
+pub fn nothing_shown() -> Shown
     ensures { λ r. ⌜ r ≡ nothing ⌝ }
 {
     Shown {
@@ -111,7 +104,7 @@ fn nothing_shown() -> Shown
 }
 
 // A free place shows nothing.
-fn show(p: Particle, sample: u64, rate: f64) -> Shown
+pub fn show(p: Particle, sample: u64, rate: f64) -> Shown
     ensures { λ r. ⌜ r ≡ shownOf sample rate p ⌝ }
 {
     if p.active {
@@ -126,25 +119,4 @@ fn show(p: Particle, sample: u64, rate: f64) -> Shown
         };
     }
     nothing_shown()
-}
-
-// Frees the places that are due, and works out what the particles in the others show, in one pass. A
-// place is stored only where it is freed, so that the others aren't copied.
-pub fn look(held: [Particle; 64], sample: u64, rate: f64) -> Seen
-    ensures { λ r. ⌜ r ≡ seenOf sample rate held ⌝ }
-{
-    let free = pool::free_particle();
-    let nothing = nothing_shown();
-    let shown = [nothing; 64];
-    let mut out = Seen { held, shown };
-    for i in 0..64 {
-        let p = out.held[i];
-        if freed(p, sample, rate) {
-            out.held[i] = free;
-            out.shown[i] = nothing;
-        } else {
-            out.shown[i] = show(p, sample, rate);
-        }
-    }
-    out
 }

@@ -14,7 +14,7 @@ taken-requires c κs = search needs
 
 returns : tie.Need-returns
 unfolding framedOf
-returns c = took _ _ _ _ (sym (c .before .before .accepts .ensures) ∙ c .before .if1 .taken) (c .taken .ensures)
+returns c = took _ _ _ _ (sym (c .before .before .before .accepts .ensures) ∙ c .before .before .if1 .taken) (c .taken .ensures)
 
 refused-requires : tie.Need-refused-requires
 refused-requires c κs = search needs

@@ -75,15 +75,14 @@ loop2-again : tie.Need-loop2-again Inv-loop2 μ-loop2 Inv-loop μ-loop
 loop2-again c =
     let m = c .before .before .before .loop2 .inv .1 in
     let row = c .before .row .ensures in
-    let place = c .before .before .before .before .before .before .loop-test .taken in
-    let window = c .before .before .loop2-test .taken in (
+    let place = c .before .before .before .before .before .before .loop-test .taken in (
       search needs,
       ⊎-elim
           (λ u.
           rw (u .3)
-          (blank-stored _ _ _ _ _ m place window _
+          (blank-stored _ _ _ _ _ m place (search needs) _
           (u .2 .ensures ∙ row-shows _ _ _ _ _ _ (u .0 .taken) (row .0 (u .0 .taken)) ∙ at-place _ _ _ _ _ _ place)))
-          (λ u. rw (u .1) (blank-left _ _ _ _ _ m place window (other-shows-none _ _ _ _ _ (row .1 (u .0 .left)) ∙ at-place _ _ _ _ _ _ place)))
+          (λ u. rw (u .1) (blank-left _ _ _ _ _ m place (search needs) (other-shows-none _ _ _ _ _ (row .1 (u .0 .left)) ∙ at-place _ _ _ _ _ _ place)))
           (c .if1 .came),
     )
 
