@@ -40,6 +40,7 @@ pub fn advance(engine: Engine, samples: u64) -> Done
                 engine: out,
             };
         }
+        // Something may be due: what it delivers comes first, and then the clock.
         if config.scheduled {
             let shape = config.shape;
             let reference = moved.phase + moved.phase_offset;

@@ -1,4 +1,4 @@
-// What one field of a script does to the run.
+// The run of a script, and what a field comes to.
 ghost use mathlib.Core.Path.{_≡_};
 ghost use Rattle.steps.specs.Steps as Steps;
 ghost use Rattle.steps.specs.Replies.{replyOf, outcomeReply};
@@ -22,6 +22,7 @@ pub enum Reply {
     Framed(Values),
 }
 
+// Both, as the definition of a field's step gives them.
 pub struct Stepped {
     pub run: Run,
     pub reply: Reply,

@@ -1,4 +1,4 @@
-// One turn of a script: the field at the start of what is left goes to the engine, and has a line.
+// The turns of a script: each field goes to the engine, and has a line.
 ghost use mathlib.Core.Path.{_≡_};
 ghost use Prim.Native.Nat.{_+_, _-_, _<_, _^_};
 ghost use mathlib.Core.Bool.{true, false, not};
