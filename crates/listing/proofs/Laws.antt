@@ -18,7 +18,7 @@ last : (f : ℕ) (run : Run) (n : ℕ) (s : List ℕ) → turnOf run n s .taken 
 unfolding turnsFrom
 last f run n s h = rw (eq-eqb _ _ h) (sym (append-nil _))
 
-more : (f : ℕ) (run : Run) (n : ℕ) (s : List ℕ) → (turnOf run n s .taken ≡ 0 → ⊥)
+pub more : (f : ℕ) (run : Run) (n : ℕ) (s : List ℕ) → (turnOf run n s .taken ≡ 0 → ⊥)
     → textOf (turnOf run n s .line) ++ textFrom f (turnOf run n s .run) (n + 1) (drop (turnOf run n s .taken) s) ≡ textFrom (suc f) run n s
 unfolding turnsFrom
 more f run n s h = rw (ne-eqb _ _ h)

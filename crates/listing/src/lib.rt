@@ -13,6 +13,7 @@ use lines::Line;
 use refusals::Refusal;
 use steps::Run;
 use turns::counted;
+use turns::next_line;
 use turns::one_turn;
 
 pub enum Listed {
@@ -20,7 +21,8 @@ pub enum Listed {
     NoRoom,
 }
 
-// The lines from field n on, which stands at `at`, behind what `out` has before w.
+// The lines from field n on, which stands at `at`, behind what `out` has before w. Fields that print
+// nothing are gone through in one place; the run is handed on from line to line.
 fn list_fields(run: Run, n: u64, at: usize, w: usize, script: &[u8], out: &mut [u8]) -> usize
     requires { ⌜ (at ≤ length (now script)) × (0 < n) × (n ≤ at + 1) ⌝ }
     ensures { λ r. ⌜ Put (now (out .entry)) (now (out .exit)) w r (textFrom (length (now (script .entry)) + 2 - n) run n (drop at (now (script .entry)))) ⌝ }
@@ -30,7 +32,8 @@ fn list_fields(run: Run, n: u64, at: usize, w: usize, script: &[u8], out: &mut [
     let mut at = at;
     let mut w = w;
     loop {
-        let turn = one_turn(run, n, &script[at..]);
+        let reached = next_line(run, n, &script[at..]);
+        let turn = reached.turn;
         let line = turn.line;
         w = lines::put_line(out, w, line);
         let k = turn.taken;
@@ -39,8 +42,8 @@ fn list_fields(run: Run, n: u64, at: usize, w: usize, script: &[u8], out: &mut [
         }
         let next = turn.run;
         run = next;
-        at = at + k;
-        n = n + 1;
+        at = at + reached.at + k;
+        n = reached.n + 1;
     }
 }
 

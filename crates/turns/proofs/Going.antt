@@ -1,7 +1,7 @@
--- Turns one after the other: what is left to come, the end of it, and how it goes on.
-use Prim.Native.Nat.{ℕ, suc, _+_, _-_, _≤_, _<_, _^_}
+-- Turns one after the other: where they end, how they go on, and what they come to for one field and for a whole script.
+use Prim.Native.Nat.{ℕ, zero, suc, _+_, _-_, _≤_, _<_, _^_, _%_}
 use mathlib.Core.Path.{_≡_, refl, sym, ap, _∙_}
-use mathlib.Core.Bool.{Bool, true, false, not}
+use mathlib.Core.Bool.{Bool, true, false}
 use mathlib.Core.List.{List}
 use native.Mathlib.Omega.{arith}
 use lib.ListN.{length, drop}
@@ -9,126 +9,127 @@ use lib.Dec.{eqb}
 use lib.Seq.{drop-drop}
 use borrow.Author.Tests.{eq-eqb, ne-eqb, eqb-true, eqb-false}
 use Rattle.casts.proofs.Sat.{no}
-use Rattle.lists.specs.Pick.{pick, by-case, took, skipped}
+use Rattle.lists.specs.Pick.{pick, picked, passed, by-case, took, skipped}
+use Rattle.state.specs.State.{grown}
 use Rattle.steps.specs.declared.Run.{Run}
+use Rattle.steps.specs.Steps.{fresh}
+use Rattle.lines.specs.declared.Line.{Line}
+use Rattle.turns.specs.declared.Reached.{Reached}
 use Rattle.turns.specs.declared.Turn.{Turn}
+use Rattle.turns.specs.declared.Until.{Until}
+use Rattle.turns.specs.declared.Until.the-variants as U
 use Rattle.turns.specs.Turns.{turnOf, turnsFrom}
-use Rattle.turns.specs.Last.{lastOf, turnAfter}
+use Rattle.turns.specs.Last.{lastOf, lastTurn}
+use Rattle.turns.specs.Reaching.{passesBy, goesOn, reachedAt, reachedFrom, reachedOf}
 use Rattle.turns.proofs.Laws.{taken-left}
 
--- ---- the last of the turns
-module _ (f : ℕ) (run : Run) (n : ℕ) (s : List ℕ) (d : Turn) where
-  stopped : turnOf run n s .taken ≡ 0 → lastOf d (turnsFrom (suc f) run n s) ≡ turnOf run n s
-  unfolding turnsFrom lastOf
-  stopped h = rw (eq-eqb _ _ h)
+-- ---- the test
+pub on-takes : (u : Until) (line : Line) (k : ℕ) → goesOn u line k ≡ true → k ≡ 0 → ⊥
+unfolding goesOn
+on-takes u line k h z = no (picked (eqb k 0) false (passesBy u line) (eq-eqb k 0 z) ∙ h)
 
-  onward : (turnOf run n s .taken ≡ 0 → ⊥) → lastOf d (turnsFrom (suc f) run n s) ≡ lastOf (turnOf run n s) (turnsFrom f (turnOf run n s .run) (n + 1) (drop (turnOf run n s .taken) s))
-  unfolding turnsFrom lastOf
-  onward h = rw (ne-eqb _ _ h)
+pub none-ends : (u : Until) (line : Line) → goesOn u line 0 ≡ false
+unfolding goesOn pick
+none-ends u line = refl
 
-  -- where there is a turn, the other one does not matter
-  any : (e : Turn) → lastOf d (turnsFrom (suc f) run n s) ≡ lastOf e (turnsFrom (suc f) run n s)
-  unfolding turnsFrom lastOf
-  any e = refl
+field-ends : (line : Line) (k : ℕ) → goesOn U.Field line k ≡ false
+unfolding goesOn
+field-ends line k = by-case (eqb k 0) (λ h. sym (picked (eqb k 0) false false h)) (λ h. sym (passed (eqb k 0) false false h))
 
--- the last of the turns that are left is `end`
-abbrev Left : List ℕ → Turn → ℕ → Run → ℕ → ℕ → Type 0
-Left s end n₀ run n at = (d : Turn) → lastOf d (turnsFrom (length s + 1 + n₀ - n) run n (drop at s)) ≡ end
+end-on : (line : Line) (k : ℕ) → (k ≡ 0 → ⊥) → goesOn U.End line k ≡ true
+unfolding goesOn
+end-on line k h = sym (passed (eqb k 0) false true (ne-eqb k 0 h))
 
-module _ (s : List ℕ) (n₀ : ℕ) (run : Run) (n at : ℕ) (low : n₀ ≤ n) (few : n ≤ n₀ + at) (within : at ≤ length s) (t end : Turn) (g : Left s end n₀ run n at) (eq : t ≡ turnOf run n (drop at s)) where
-  fuel : length s + 1 + n₀ - n ≡ suc (length s + n₀ - n)
-  fuel = omega arith
+-- ---- one turn more or less
+module _ (u : Until) (run : Run) (n at : ℕ) (s : List ℕ) (t : Turn) (eq : t ≡ turnOf run n (drop at s)) where
+  pub stops : (f : ℕ) → goesOn u (t .line) (t .taken) ≡ false → reachedAt t n at ≡ reachedFrom u f run n at s
+  unfolding reachedFrom
+  stops zero h = ap (λ (x : Turn). reachedAt x n at) eq
+  stops (suc f) h = skipped _ _ _ _ (ap (λ (x : Turn). goesOn u (x .line) (x .taken)) (sym eq) ∙ h) (ap (λ (x : Turn). reachedAt x n at) eq)
 
-  last-here : t .taken ≡ 0 → t ≡ end
-  last-here h = eq ∙ sym (stopped (length s + n₀ - n) run n (drop at s) t (rw eq at h)) ∙ (rw fuel at (g t))
+  pub passes : (f : ℕ) → goesOn u (t .line) (t .taken) ≡ true → reachedFrom u f (t .run) (grown n) (at + t .taken) s ≡ reachedFrom u (suc f) run n at s
+  unfolding reachedFrom
+  passes f h = took _ _ _ _ (ap (λ (x : Turn). goesOn u (x .line) (x .taken)) (sym eq) ∙ h) (ap (λ (x : Turn). reachedFrom u f (x .run) (grown n) (at + x .taken) s) eq)
 
-  left-on : (t .taken ≡ 0 → ⊥) → Left s end n₀ (t .run) (n + 1) (at + t .taken)
-  left-on h d =
-      let u = drop at s in
-      let left = taken-left run n at s t eq in
-      let f : ℕ = length s + n₀ - (n + 1) in
-      let now : length s + n₀ - n ≡ suc f = omega (arith, h, left) in
-      let next : length s + 1 + n₀ - (n + 1) ≡ suc f = omega (arith, h, left) in
-      let all = onward (suc f) run n u t (rw eq at h) in
-      let here : lastOf t (turnsFrom (suc (suc f)) run n u) ≡ end = rw now at (rw fuel at (g t)) in
-      rw (next, eq, ← drop-drop (turnOf run n u .taken) at s) (any f (turnOf run n u .run) (n + 1) (drop (turnOf run n u .taken) u) d (turnOf run n u) ∙ sym all ∙ here)
-
--- ---- one turn, or all of them
--- after some turns from field n₀ on, at the start of s: field n of the run stands at `at`
-pub record Going (on : Bool) (s : List ℕ) (run₀ : Run) (n₀ : ℕ) (run : Run) (n at : ℕ) : Type 0 where
+-- ---- under way: the whole is what is left from here
+pub record Going (u : Until) (s : List ℕ) (run₀ : Run) (n₀ : ℕ) (run : Run) (n at : ℕ) : Type 0 where
   pub within : at ≤ length s
-  pub low : n₀ ≤ n
-  pub few : n ≤ n₀ + at
-  pub numbers : on ≡ true → n₀ + length s < 2 ^ 64
-  pub left : on ≡ true → Left s (lastOf (turnOf run₀ n₀ s) (turnsFrom (length s + 1) run₀ n₀ s)) n₀ run n at
-  pub first : on ≡ false → (run ≡ run₀) × (n ≡ n₀) × (at ≡ 0)
+  pub fuel : ℕ
+  pub enough : length s ≤ fuel + at
+  pub left : reachedFrom u fuel run n at s ≡ reachedOf u run₀ n₀ s
 
-pub going-start : (on : Bool) (s : List ℕ) (run : Run) (n : ℕ) → (on ≡ true → n + length s < 2 ^ 64) → Going on s run n run n 0
-going-start on s run n h =
-    let one : length s + 1 + n - n ≡ suc (length s) = omega arith in
-    let same : length s + 1 ≡ suc (length s) = omega arith in
-    record {
-      within = omega arith;
-      low = omega arith;
-      few = omega arith;
-      numbers = h;
-      left = λ _ d. rw (one, same) (any (length s) run n s d (turnOf run n s));
-      first = λ _. (refl, refl, refl);
-    }
+pub going-start : (u : Until) (s : List ℕ) (run : Run) (n : ℕ) → Going u s run n run n 0
+going-start u s run n = record { within = omega arith; fuel = length s; enough = omega arith; left = refl }
 
--- what the test says
-going : (on : Bool) (k : ℕ) → pick on (not (eqb k 0)) false ≡ true → (on ≡ true) × (k ≡ 0 → ⊥)
-unfolding pick
-going true k h = (refl, λ z. no (sym (ap not (eq-eqb k 0 z)) ∙ h))
-going false k h = absurd (no h)
+module _ (u : Until) (s : List ℕ) (run₀ : Run) (n₀ : ℕ) (run : Run) (n at : ℕ) (g : Going u s run₀ n₀ run n at) (t : Turn) (eq : t ≡ turnOf run n (drop at s)) where
+  pub going-ends : goesOn u (t .line) (t .taken) ≡ false → reachedAt t n at ≡ reachedOf u run₀ n₀ s
+  going-ends h = stops u run n at s t eq (g .fuel) h ∙ g .left
 
-pub ended : (on : Bool) (k : ℕ) → pick on (not (eqb k 0)) false ≡ false → on ≡ true → k ≡ 0
-unfolding pick
-ended true k h _ = by-case (eqb k 0) (eqb-true k 0) (λ q. absurd (no (sym h ∙ ap not q)))
-ended false k h t = absurd (no t)
+  module _ (h : goesOn u (t .line) (t .taken) ≡ true) where
+    some : t .taken ≡ 0 → ⊥
+    some = on-takes u (t .line) (t .taken) h
 
-module _ (on : Bool) (s : List ℕ) (run₀ : Run) (n₀ : ℕ) (run : Run) (n at : ℕ) (g : Going on s run₀ n₀ run n at) (t : Turn) (eq : t ≡ turnOf run n (drop at s)) where
-  pub going-ends : (on ≡ true → t .taken ≡ 0) → t ≡ turnAfter on run₀ n₀ s
-  going-ends h =
-      by-case on
-      (λ y. took _ _ _ _ y (last-here s n₀ run n at (g .low) (g .few) (g .within) t _ (g .left y) eq (h y)))
-      (λ y.
-      let f = g .first y in
-      skipped _ _ _ _ y (eq ∙ ap (λ (r : Run). turnOf r n (drop at s)) (f .0) ∙ ap (λ (m : ℕ). turnOf run₀ m (drop at s)) (f .1) ∙ ap (λ (a : ℕ). turnOf run₀ n₀ (drop a s)) (f .2)))
-
-  module _ (h : pick on (not (eqb (t .taken) 0)) false ≡ true) where
-    pub going-on : Going on s run₀ n₀ (t .run) (n + 1) (at + t .taken)
-    going-on =
-        let y = going on (t .taken) h .0 in
-        let some = going on (t .taken) h .1 in
+    onward : (f : ℕ) → length s ≤ f + at → reachedFrom u f run n at s ≡ reachedOf u run₀ n₀ s → Going u s run₀ n₀ (t .run) (grown n) (at + t .taken)
+    onward zero e w = let z = some in let left = taken-left run n at s t eq in let fits = g .within in absurd (omega arith)
+    onward (suc f) e w =
+        let z = some in
         let left = taken-left run n at s t eq in
         let fits = g .within in
-        let lo = g .low in
-        let few = g .few in
-        record {
-          within = omega arith;
-          low = omega arith;
-          few = omega arith;
-          numbers = g .numbers;
-          left = λ _. left-on s n₀ run n at lo few fits t _ (g .left y) eq some;
-          first = λ z. absurd (no (sym z ∙ y));
-        }
+        record { within = omega arith; fuel = f; enough = omega arith; left = passes u run n at s t eq f h ∙ w }
 
-    pub next-number : n + 1 < 2 ^ 64
-    next-number =
-        let top = g .numbers (going on (t .taken) h .0) in
-        let some = going on (t .taken) h .1 in
-        let left = taken-left run n at s t eq in
-        let fits = g .within in
-        let few = g .few in
-        omega arith
-
-    pub next-place : at + t .taken < 2 ^ 64
-    next-place =
-        let top = g .numbers (going on (t .taken) h .0) in
-        let left = taken-left run n at s t eq in
-        let fits = g .within in
-        omega arith
+    pub going-on : Going u s run₀ n₀ (t .run) (grown n) (at + t .taken)
+    going-on = onward (g .fuel) (g .enough) (g .left)
 
     pub further : at < at + t .taken
-    further = let some = going on (t .taken) h .1 in omega arith
+    further = let z = some in omega arith
+
+-- ---- one field
+pub field-turn : (run : Run) (n : ℕ) (s : List ℕ) → reachedOf U.Field run n s .turn ≡ turnOf run n s
+field-turn run n s = ap (λ (r : Reached). r .turn) (sym (stops U.Field run n 0 s (turnOf run n s) refl (length s) (field-ends _ _)))
+
+-- ---- a whole script
+module _ (f : ℕ) (run : Run) (n : ℕ) (s : List ℕ) (d : Turn) where
+  ended : turnOf run n s .taken ≡ 0 → lastOf d (turnsFrom (suc f) run n s) ≡ turnOf run n s
+  unfolding turnsFrom lastOf
+  ended h = rw (eq-eqb _ _ h)
+
+  ahead : (turnOf run n s .taken ≡ 0 → ⊥) → lastOf d (turnsFrom (suc f) run n s) ≡ lastOf (turnOf run n s) (turnsFrom f (turnOf run n s .run) (n + 1) (drop (turnOf run n s .taken) s))
+  unfolding turnsFrom lastOf
+  ahead h = rw (ne-eqb _ _ h)
+
+nothing-left : (run : Run) (n : ℕ) (s : List ℕ) (t : Turn) → lastOf t (turnsFrom 0 run n s) ≡ t
+unfolding turnsFrom lastOf
+nothing-left run n s t = refl
+
+no-more : (run : Run) (n at : ℕ) (s : List ℕ) → reachedAt (turnOf run n (drop at s)) n at ≡ reachedFrom U.End 0 run n at s
+unfolding reachedFrom
+no-more run n at s = refl
+
+last-from : (f : ℕ) (run : Run) (n at : ℕ) (s : List ℕ) → n + f < 2 ^ 64 → (d : Turn) → reachedFrom U.End f run n at s .turn ≡ lastOf d (turnsFrom (suc f) run n (drop at s))
+last-from zero run n at s h d =
+    let t = turnOf run n (drop at s) in
+    let here = ap (λ (r : Reached). r .turn) (sym (no-more run n at s)) in
+    by-case (eqb (t .taken) 0)
+    (λ y. here ∙ sym (ended 0 run n (drop at s) d (eqb-true _ _ y)))
+    (λ y. here ∙ sym (ahead 0 run n (drop at s) d (eqb-false _ _ y) ∙ nothing-left _ _ _ t))
+last-from (suc f) run n at s h d =
+    let t = turnOf run n (drop at s) in
+    by-case (eqb (t .taken) 0)
+    (λ y.
+    let z = eqb-true _ _ y in
+    ap (λ (r : Reached). r .turn) (sym (stops U.End run n at s t refl (suc f) (ap (goesOn U.End (t .line)) z ∙ none-ends U.End (t .line))))
+    ∙ sym (ended (suc f) run n (drop at s) d z))
+    (λ y.
+    let some = eqb-false _ _ y in
+    let next : grown n ≡ n + 1 = omega arith in
+    ap (λ (r : Reached). r .turn) (sym (passes U.End run n at s t refl f (end-on (t .line) (t .taken) some)))
+    ∙ last-from f (t .run) (grown n) (at + t .taken) s (omega arith) t
+    ∙ ap (λ (m : ℕ). lastOf t (turnsFrom (suc f) (t .run) m (drop (at + t .taken) s))) next
+    ∙ ap (λ (x : List ℕ). lastOf t (turnsFrom (suc f) (t .run) (n + 1) x)) (sym (drop-drop (t .taken) at s))
+    ∙ sym (ahead (suc f) run n (drop at s) d some))
+
+pub script-turn : (s : List ℕ) → length s + 1 < 2 ^ 64 → reachedOf U.End fresh 1 s .turn ≡ lastTurn s
+unfolding lastTurn
+script-turn s h =
+    let one : suc (length s) ≡ length s + 1 = omega arith in
+    last-from (length s) fresh 1 0 s (omega arith) (turnOf fresh 1 s) ∙ ap (λ (f : ℕ). lastOf (turnOf fresh 1 s) (turnsFrom f fresh 1 s)) one

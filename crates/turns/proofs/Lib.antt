@@ -1,3 +1,3 @@
 pub mod Laws
-mod Going
+pub mod Going
 mod Fields

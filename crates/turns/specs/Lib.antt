@@ -1,4 +1,5 @@
 pub mod Turns
 pub mod Last
 pub mod Late
+pub mod Reaching
 pub mod Saying

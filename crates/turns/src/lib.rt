@@ -1,12 +1,10 @@
 // The turns of a script: each field goes to the engine, and has a line.
 ghost use mathlib.Core.Path.{_≡_};
-ghost use Prim.Native.Nat.{_+_, _-_, _<_, _^_};
-ghost use mathlib.Core.Bool.{true, false, not};
-ghost use lib.Dec.{eqb};
-ghost use lib.ListN.{length};
-ghost use Rattle.lists.specs.Pick.{pick};
+ghost use Prim.Native.Nat.{_-_};
 ghost use Rattle.turns.specs.Turns.{toldOf, turnOf};
-ghost use Rattle.turns.specs.Last.{lastTurn, turnAfter};
+ghost use Rattle.turns.specs.Last.{lastTurn};
+ghost use Rattle.turns.specs.Reaching.{isSilent, goesOn, reachedAt, reachedOf};
+ghost use Rattle.turns.specs.declared.Until.the-variants as Until;
 ghost use Rattle.turns.specs.Saying.{saysOf, saidOf};
 ghost use Rattle.turns.specs.Late.{countedOf};
 use fields::Field;
@@ -23,6 +21,20 @@ pub struct Turn {
     pub run: Run,
     pub line: Line,
     pub taken: usize,
+}
+
+// How far turns go: through one field, up to the next line that is printed, or to the end of the run.
+pub enum Until {
+    Field,
+    Line,
+    End,
+}
+
+// A turn, and where its field stands: its number, and its place.
+pub struct Reached {
+    pub turn: Turn,
+    pub n: u64,
+    pub at: usize,
 }
 
 // What a turn says beside the run.
@@ -67,19 +79,44 @@ fn before(n: u64) -> u64
     if n == 0 { 0 } else { n - 1 }
 }
 
-// After a field that takes no byte nothing follows.
-fn goes_on(on: bool, taken: usize) -> bool
-    ensures { λ r. ⌜ r ≡ pick on (not (eqb taken 0)) false ⌝ }
+// Whether a line prints nothing.
+fn silent(line: Line) -> bool
+    ensures { λ r. ⌜ r ≡ isSilent line ⌝ }
 {
-    if on { taken != 0 } else { false }
+    match line {
+        Line::Nothing => true,
+        Line::Frame(_, _) => false,
+        Line::Refused(_, _) => false,
+        Line::Bad(_, _) => false,
+        Line::End(_) => false,
+    }
 }
 
-// Field n stands at the start of s. One turn, or where it goes `on`, turns up to the one that ends the
-// run; the last of them. The engine and the frame stand here alone, and each call's answer is stored
-// where they stand: handed through a function for each field they would be copied for each.
-fn take_turns(on: bool, run: Run, n: u64, s: &[u8]) -> Turn
-    requires { ⌜ (on ≡ true → n + length (now s) < 2 ^ 64) ⌝ }
-    ensures { λ r. ⌜ r ≡ turnAfter on run n (now (s .entry)) ⌝ }
+// After a field that takes no byte nothing follows.
+fn goes_on(until: Until, line: Line, taken: usize) -> bool
+    ensures { λ r. ⌜ r ≡ goesOn until line taken ⌝ }
+{
+    if taken == 0 {
+        return false;
+    }
+    match until {
+        Until::Field => false,
+        Until::Line => silent(line),
+        Until::End => true,
+    }
+}
+
+fn reach(turn: Turn, n: u64, at: usize) -> Reached
+    ensures { λ r. ⌜ r ≡ reachedAt turn n at ⌝ }
+{
+    Reached { turn, n, at }
+}
+
+// Field n stands at the start of s. One turn after the other, as far as is asked for. The engine and
+// the frame stand here alone, and each call's answer is stored where they stand: handed through a
+// function for each field they would be copied for each.
+fn take_turns(until: Until, run: Run, n: u64, s: &[u8]) -> Reached
+    ensures { λ r. ⌜ r ≡ reachedOf until run n (now (s .entry)) ⌝ }
 {
     let mut engine = run.engine;
     let mut frame = run.frame;
@@ -176,21 +213,21 @@ fn take_turns(on: bool, run: Run, n: u64, s: &[u8]) -> Turn
                 let said = replied(n, k, reply);
                 let line = said.line;
                 let taken = said.taken;
-                if goes_on(on, taken) {
+                if goes_on(until, line, taken) {
                     at = at + taken;
-                    n = n + 1;
+                    n = std::num::wrapping_add_u64(n, 1);
                 } else {
                     let run = Run { engine, frame };
-                    return told(run, line, taken);
+                    return reach(told(run, line, taken), n, at);
                 }
             }
             Read::Bad(refusal) => {
                 let run = Run { engine, frame };
-                return told(run, Line::Bad(n, refusal), 0);
+                return reach(told(run, Line::Bad(n, refusal), 0), n, at);
             }
             Read::End => {
                 let run = Run { engine, frame };
-                return told(run, Line::End(before(n)), 0);
+                return reach(told(run, Line::End(before(n)), 0), n, at);
             }
         }
     }
@@ -200,14 +237,23 @@ fn take_turns(on: bool, run: Run, n: u64, s: &[u8]) -> Turn
 pub fn one_turn(run: Run, n: u64, s: &[u8]) -> Turn
     ensures { λ r. ⌜ r ≡ turnOf run n (now (s .entry)) ⌝ }
 {
-    take_turns(false, run, n, s)
+    let reached = take_turns(Until::Field, run, n, s);
+    reached.turn
+}
+
+// The first turn from field n on that has a line, and where its field stands.
+pub fn next_line(run: Run, n: u64, s: &[u8]) -> Reached
+    ensures { λ r. ⌜ r ≡ reachedOf Until.Line run n (now (s .entry)) ⌝ }
+{
+    take_turns(Until::Line, run, n, s)
 }
 
 // The turn that ends a script.
 pub fn last_turn(script: &[u8]) -> Turn
     ensures { λ r. ⌜ r ≡ lastTurn (now (script .entry)) ⌝ }
 {
-    take_turns(true, steps::fresh(), 1, script)
+    let reached = take_turns(Until::End, steps::fresh(), 1, script);
+    reached.turn
 }
 
 // Where the first field made an engine, it has counted `start` samples, for the comparison with the

@@ -1,10 +1,14 @@
 -- `last_turn` meets its contract: all turns, from a fresh run on.
 use mathlib.Core.Path.{ap, _∙_}
-use mathlib.Core.Bool.{true}
+use native.Mathlib.Omega.{arith}
+use lib.ListN.{length}
+use Prim.Native.Nat.{_+_, _<_, _^_}
 use borrow.Author.Needs.{needs}
-use Rattle.lists.specs.Pick.{pick}
 use Rattle.steps.specs.declared.Run.{Run}
-use Rattle.turns.specs.Last.{turnAfter, lastTurn}
+use Rattle.turns.specs.declared.Reached.{Reached}
+use Rattle.turns.specs.declared.Until.the-variants as U
+use Rattle.turns.specs.Reaching.{reachedOf}
+use Rattle.turns.proofs.Going.{script-turn}
 use Rattle.turns.proofs.last_turn.Statement.{statement}
 use Rattle.turns.proofs.last_turn.Tie as tie
 
@@ -15,8 +19,10 @@ take-turns-requires : tie.Need-take-turns-requires
 take-turns-requires c κs = search needs
 
 returns : tie.Need-returns
-unfolding lastTurn pick
-returns c = c .take-turns .ensures ∙ ap (λ (run : Run). turnAfter true run 1 (c .before .before .before .args .script .now)) (c .before .fresh .ensures)
+returns c =
+    let s = c .before .before .before .before .args .script .now in
+    let top : length s + 1 < 2 ^ 64 = omega (arith, c .before .before .before .before .good .0) in
+    ap (λ (r : Reached). r .turn) (c .before .take-turns .ensures ∙ ap (λ (run : Run). reachedOf U.End run 1 s) (c .before .before .fresh .ensures)) ∙ script-turn s top
 
 pub last-turn-spec : {M : Type 1} → statement M
 last-turn-spec = tie.close (tie.spec fresh-requires take-turns-requires returns)

@@ -1,7 +1,7 @@
 -- `take_turns` meets its contract: each field's turn is the definition's, and the last of them the last of all.
 use Prim.Native.Nat.{ℕ, _+_, _-_, _≤_, _<_, _^_}
 use native.Mathlib.Omega.{arith}
-use mathlib.Core.Path.{_≡_, refl, sym, ap, _∙_}
+use mathlib.Core.Path.{_≡_, refl, sym, ap, _∙_, subst}
 use mathlib.Core.Logic.{⊎-elim}
 use lib.ListN.{length, drop}
 use borrow.Author.Needs.{needs}
@@ -9,7 +9,9 @@ use Rattle.script.proofs.Part.{rest}
 use Rattle.steps.specs.Steps.{stepOf}
 use Rattle.steps.specs.declared.Run.{Run}
 use Rattle.triggers.specs.declared.Reserved.{Reserved}
-use Rattle.turns.proofs.Going.{Going, going-start, ended, going-ends, going-on, next-number, next-place, further}
+use Rattle.turns.proofs.Going.{Going, none-ends, going-start, going-ends, going-on, further}
+use Rattle.turns.specs.declared.Turn.{Turn}
+use Rattle.turns.specs.Reaching.{reachedAt}
 use Rattle.turns.proofs.Laws.{taken-left}
 use Rattle.turns.specs.Turns.{toldOf, turnOf}
 use Rattle.lines.specs.declared.Line.the-variants as L
@@ -35,16 +37,18 @@ use Rattle.triggers.proofs.reserve_trigger.Reads as reserve-trigger-reads
 use Rattle.triggers.proofs.trigger_reserved.Reads as trigger-reserved-reads
 use Rattle.turns.proofs.replied.Reads as replied-reads
 use Rattle.turns.proofs.goes_on.Reads as goes-on-reads
+use Rattle.std.proofs.num.wrapping_add_u64.Reads as wrapping-add-u64-reads
 use Rattle.turns.proofs.told.Reads as told-reads
+use Rattle.turns.proofs.reach.Reads as reach-reads
 use Rattle.turns.proofs.before.Reads as before-reads
 use Rattle.turns.proofs.take_turns.Reads as reads
 use Rattle.turns.proofs.take_turns.Lts as lts
 
 abbrev Inv-loop : tie.InvT-loop
-Inv-loop on n s engine₀ frame₀ n₀ at₀ engine frame n' at = Going on s (record { engine = engine₀; frame = frame₀ }) n (record { engine = engine; frame = frame }) n' at
+Inv-loop until n s engine₀ frame₀ n₀ at₀ engine frame n' at = Going until s (record { engine = engine₀; frame = frame₀ }) n (record { engine = engine; frame = frame }) n' at
 
 abbrev μ-loop : tie.MeasureT-loop
-μ-loop on n s engine₀ frame₀ n₀ at₀ engine frame n' at = length s - at
+μ-loop until n s engine₀ frame₀ n₀ at₀ engine frame n' at = length s - at
 
 -- what the calls ask and tell, as the walk of the code takes them
 abbrev claims : lts.Claims
@@ -87,8 +91,12 @@ claims = (
   replied-reads.Learnt,
   goes-on-reads.Asked,
   goes-on-reads.Learnt,
+  wrapping-add-u64-reads.Asked,
+  wrapping-add-u64-reads.Learnt,
   told-reads.Asked,
   told-reads.Learnt,
+  reach-reads.Asked,
+  reach-reads.Learnt,
   before-reads.Asked,
   before-reads.Learnt,
 )
@@ -124,7 +132,7 @@ turned : (c : lts.After-replied claims reads.Pre reads.Post Inv-loop μ-loop)
 turned c = turn-of _ _ _ _ (rw (rest (c .before .before .before .before .before .before .before .loop .at) (c .before .before .before .before .before .before .before .before .before .before .before .args .s .now)) at (c .before .before .before .before .before .read-field .ensures)) _ _ _ _ _ _ (c .before .before .before .read .given .1) (stepped (c .before)) (c .replied .ensures)
 
 loop-holds : tie.Need-loop-holds Inv-loop μ-loop
-loop-holds c = going-start (c .before .before .before .args .on) (c .before .before .before .args .s .now) (c .before .before .before .args .run) (c .before .before .before .args .n) (c .before .before .before .pre)
+loop-holds c = going-start (c .before .before .before .args .until) (c .before .before .before .args .s .now) (c .before .before .before .args .run) (c .before .before .before .args .n)
 
 sub-read-field : tie.Need-sub-read-field Inv-loop μ-loop
 sub-read-field c = let fits = c .loop .inv .within in omega arith
@@ -282,47 +290,45 @@ add-at c =
     let l = c .before .before .before .before .before .before .before .before .before .loop in
     let run : Run = record { engine = l .engine; frame = l .frame } in
     let eq = turned (c .before .before) in
-    let top = next-place (a .on) (a .s .now) (a .run) (a .n) run (l .n) (l .at) (l .inv) _ eq (sym (c .before .goes-on .ensures) ∙ c .if1 .taken) in
-    omega arith
+    let le : c .before .before .replied .result .taken ≤ length (a .s .now) - l .at = taken-left run (l .n) (l .at) (a .s .now) _ eq in
+    let fits = l .inv .within in
+    omega (arith, le, c .before .before .before .before .before .before .before .before .before .before .before .before .before .good .1 .1 .1 .0)
 
-add-n : tie.Need-add-n Inv-loop μ-loop
-add-n c =
-    let a = c .before .before .before .before .before .before .before .before .before .before .before .before .before .args in
-    let l = c .before .before .before .before .before .before .before .before .before .loop in
-    let run : Run = record { engine = l .engine; frame = l .frame } in
-    let eq = turned (c .before .before) in
-    let top = next-number (a .on) (a .s .now) (a .run) (a .n) run (l .n) (l .at) (l .inv) _ eq (sym (c .before .goes-on .ensures) ∙ c .if1 .taken) in
-    omega arith
+wrapping-add-u64-requires : tie.Need-wrapping-add-u64-requires Inv-loop μ-loop
+wrapping-add-u64-requires c κs = search needs
 
 loop-less : tie.Need-loop-less Inv-loop μ-loop
 loop-less c =
-    let a = c .before .before .before .before .before .before .before .before .before .before .before .before .before .args in
-    let l = c .before .before .before .before .before .before .before .before .before .loop in
-    let run : Run = record { engine = l .engine; frame = l .frame } in
-    let eq = turned (c .before .before) in
-    let le : c .before .before .replied .result .taken ≤ length (a .s .now) - l .at = taken-left run (l .n) (l .at) (a .s .now) _ eq in
-    let fits = l .inv .within in
-    let more = further (a .on) (a .s .now) (a .run) (a .n) run (l .n) (l .at) (l .inv) _ eq (sym (c .before .goes-on .ensures) ∙ c .if1 .taken) in
-    omega arith
-
-loop-again : tie.Need-loop-again Inv-loop μ-loop
-loop-again c =
-    let a = c .before .before .before .before .before .before .before .before .before .before .before .before .before .args in
-    let l = c .before .before .before .before .before .before .before .before .before .loop in
-    let run : Run = record { engine = l .engine; frame = l .frame } in
-    let eq = turned (c .before .before) in
-    going-on (a .on) (a .s .now) (a .run) (a .n) run (l .n) (l .at) (l .inv) _ eq (sym (c .before .goes-on .ensures) ∙ c .if1 .taken)
-
-told-requires : tie.Need-told-requires Inv-loop μ-loop
-told-requires c κs = search needs
-
-returns : tie.Need-returns Inv-loop μ-loop
-returns c =
     let a = c .before .before .before .before .before .before .before .before .before .before .before .before .before .before .args in
     let l = c .before .before .before .before .before .before .before .before .before .before .loop in
     let run : Run = record { engine = l .engine; frame = l .frame } in
     let eq = turned (c .before .before .before) in
-    c .told .ensures ∙ going-ends (a .on) (a .s .now) (a .run) (a .n) run (l .n) (l .at) (l .inv) _ eq (ended (a .on) _ (sym (c .before .before .goes-on .ensures) ∙ c .before .if1 .left))
+    let le : c .before .before .before .replied .result .taken ≤ length (a .s .now) - l .at = taken-left run (l .n) (l .at) (a .s .now) _ eq in
+    let fits = l .inv .within in
+    let more = further (a .until) (a .s .now) (a .run) (a .n) run (l .n) (l .at) (l .inv) _ eq (sym (c .before .before .goes-on .ensures) ∙ c .before .if1 .taken) in
+    omega arith
+
+loop-again : tie.Need-loop-again Inv-loop μ-loop
+loop-again c =
+    let a = c .before .before .before .before .before .before .before .before .before .before .before .before .before .before .args in
+    let l = c .before .before .before .before .before .before .before .before .before .before .loop in
+    let run : Run = record { engine = l .engine; frame = l .frame } in
+    let eq = turned (c .before .before .before) in
+    subst (λ (m : ℕ). Going (a .until) (a .s .now) (a .run) (a .n) (record { engine = c .before .before .before .before .match2 .engine; frame = c .before .before .before .before .match2 .frame }) m (l .at + c .before .before .before .replied .result .taken)) (sym (c .wrapping-add-u64 .ensures)) (going-on (a .until) (a .s .now) (a .run) (a .n) run (l .n) (l .at) (l .inv) _ eq (sym (c .before .before .goes-on .ensures) ∙ c .before .if1 .taken))
+
+told-requires : tie.Need-told-requires Inv-loop μ-loop
+told-requires c κs = search needs
+
+reach-requires : tie.Need-reach-requires Inv-loop μ-loop
+reach-requires c κs = search needs
+
+returns : tie.Need-returns Inv-loop μ-loop
+returns c =
+    let a = c .before .before .before .before .before .before .before .before .before .before .before .before .before .before .before .args in
+    let l = c .before .before .before .before .before .before .before .before .before .before .before .loop in
+    let run : Run = record { engine = l .engine; frame = l .frame } in
+    let eq = turned (c .before .before .before .before) in
+    c .reach .ensures ∙ ap (λ (t : Turn). reachedAt t (l .n) (l .at)) (c .before .told .ensures) ∙ going-ends (a .until) (a .s .now) (a .run) (a .n) run (l .n) (l .at) (l .inv) _ eq (sym (c .before .before .before .goes-on .ensures) ∙ c .before .before .if1 .left)
 
 enum-known-read-2 : tie.Need-enum-known-read-2 Inv-loop μ-loop
 enum-known-read-2 c = c .match .keys2
@@ -330,13 +336,16 @@ enum-known-read-2 c = c .match .keys2
 told-requires-2 : tie.Need-told-requires-2 Inv-loop μ-loop
 told-requires-2 c κs = search needs
 
+reach-requires-2 : tie.Need-reach-requires-2 Inv-loop μ-loop
+reach-requires-2 c κs = search needs
+
 returns-2 : tie.Need-returns-2 Inv-loop μ-loop
 returns-2 c =
-    let a = c .before .before .before .before .before .before .before .before .before .before .args in
-    let l = c .before .before .before .before .before .before .loop in
+    let a = c .before .before .before .before .before .before .before .before .before .before .before .args in
+    let l = c .before .before .before .before .before .before .before .loop in
     let run : Run = record { engine = l .engine; frame = l .frame } in
-    let eq = turn-as run (l .n) _ _ (rw (rest (l .at) (a .s .now)) at (c .before .before .before .before .read-field .ensures)) _ (c .before .before .read2 .given .1) in
-    c .told2 .ensures ∙ going-ends (a .on) (a .s .now) (a .run) (a .n) run (l .n) (l .at) (l .inv) _ eq (λ _. refl)
+    let eq = turn-as run (l .n) _ _ (rw (rest (l .at) (a .s .now)) at (c .before .before .before .before .before .read-field .ensures)) _ (c .before .before .before .read2 .given .1) in
+    c .reach2 .ensures ∙ ap (λ (t : Turn). reachedAt t (l .n) (l .at)) (c .before .told2 .ensures) ∙ going-ends (a .until) (a .s .now) (a .run) (a .n) run (l .n) (l .at) (l .inv) _ eq (none-ends (a .until) _)
 
 enum-told-4 : tie.Need-enum-told-4 Inv-loop μ-loop
 enum-told-4 c = c .match .keys3
@@ -347,13 +356,16 @@ before-requires c κs = search needs
 told-requires-3 : tie.Need-told-requires-3 Inv-loop μ-loop
 told-requires-3 c κs = search needs
 
+reach-requires-3 : tie.Need-reach-requires-3 Inv-loop μ-loop
+reach-requires-3 c κs = search needs
+
 returns-3 : tie.Need-returns-3 Inv-loop μ-loop
 returns-3 c =
-    let a = c .before .before .before .before .before .before .before .before .before .before .args in
-    let l = c .before .before .before .before .before .before .loop in
+    let a = c .before .before .before .before .before .before .before .before .before .before .before .args in
+    let l = c .before .before .before .before .before .before .before .loop in
     let run : Run = record { engine = l .engine; frame = l .frame } in
-    let eq = turn-as run (l .n) _ _ (rw (rest (l .at) (a .s .now)) at (c .before .before .before .before .read-field .ensures)) _ (c .before .before .enum-told4 .given .1) in
-    c .told3 .ensures ∙ ap (λ (x : ℕ). toldOf run (L.End x) 0) (c .before .before2 .ensures) ∙ going-ends (a .on) (a .s .now) (a .run) (a .n) run (l .n) (l .at) (l .inv) _ eq (λ _. refl)
+    let eq = turn-as run (l .n) _ _ (rw (rest (l .at) (a .s .now)) at (c .before .before .before .before .before .read-field .ensures)) _ (c .before .before .before .enum-told4 .given .1) in
+    c .reach3 .ensures ∙ ap (λ (t : Turn). reachedAt t (l .n) (l .at)) (c .before .told3 .ensures ∙ ap (λ (x : ℕ). toldOf run (L.End x) 0) (c .before .before .before2 .ensures)) ∙ going-ends (a .until) (a .s .now) (a .run) (a .n) run (l .n) (l .at) (l .inv) _ eq (none-ends (a .until) _)
 
 pub take-turns-spec : {M : Type 1} → statement M
 take-turns-spec =
@@ -413,15 +425,18 @@ take-turns-spec =
     replied-requires
     goes-on-requires
     add-at
-    add-n
+    wrapping-add-u64-requires
     loop-less
     loop-again
     told-requires
+    reach-requires
     returns
     enum-known-read-2
     told-requires-2
+    reach-requires-2
     returns-2
     enum-told-4
     before-requires
     told-requires-3
+    reach-requires-3
     returns-3)
