@@ -1,4 +1,4 @@
--- `take_turns` meets its contract: each field's turn is the definition's, and the last of them the last of all.
+-- `take_turns` meets its contract: each field's turn is the definition's, and the turns go as far as is asked for.
 use Prim.Native.Nat.{ℕ, _+_, _-_, _≤_, _<_, _^_}
 use native.Mathlib.Omega.{arith}
 use mathlib.Core.Path.{_≡_, refl, sym, ap, _∙_, subst}
