@@ -1,15 +1,15 @@
 -- Turns that print nothing add nothing to the text: up to the next line it is what is left from there.
 use Prim.Native.Nat.{ℕ, zero, suc, _+_, _-_, _≤_, _<_, _^_}
 use mathlib.Core.Path.{_≡_, refl, sym, ap, _∙_, subst}
-use mathlib.Core.Bool.{Bool, true, false}
+use mathlib.Core.Bool.{true, false}
 use mathlib.Core.List.{List, [], _++_}
 use native.Mathlib.Omega.{arith}
 use lib.Dec.{eqb}
 use lib.ListN.{length, drop, length-drop}
 use lib.Seq.{drop-drop}
-use borrow.Author.Tests.{eq-eqb, ne-eqb, eqb-false}
+use borrow.Author.Tests.{ne-eqb}
 use Rattle.casts.proofs.Sat.{no}
-use Rattle.lists.specs.Pick.{pick, picked, passed, by-case}
+use Rattle.lists.specs.Pick.{picked, passed, by-case}
 use Rattle.state.specs.State.{grown}
 use Rattle.text.specs.Put.{Put}
 use Rattle.steps.specs.declared.Run.{Run}
@@ -17,12 +17,11 @@ use Rattle.lines.specs.declared.Line.{Line}
 use Rattle.lines.specs.declared.Line.the-variants as L
 use Rattle.lines.specs.Lines.{textOf}
 use Rattle.turns.specs.declared.Reached.{Reached}
-use Rattle.turns.specs.declared.Turn.{Turn}
 use Rattle.turns.specs.declared.Until.the-variants as U
 use Rattle.turns.specs.Turns.{turnOf}
 use Rattle.turns.specs.Reaching.{isSilent, goesOn, reachedAt, reachedFrom, reachedOf}
-use Rattle.turns.proofs.Going.{on-takes, stops, passes}
-use Rattle.turns.proofs.Laws.{turn-taken, taken-left}
+use Rattle.turns.proofs.Going.{on-takes}
+use Rattle.turns.proofs.Laws.{taken-left}
 use Rattle.listing.specs.Printed.{textFrom}
 use Rattle.listing.proofs.Laws.{more, Goes}
 

@@ -1,6 +1,6 @@
 -- One field's turn from what its call left: the engine, the last frame and the reply.
 use Prim.Native.Nat.{ℕ}
-use mathlib.Core.Path.{_≡_, refl, sym, ap, _∙_}
+use mathlib.Core.Path.{_≡_, sym, ap, _∙_}
 use mathlib.Core.List.{List}
 use lib.Dec.{eqb}
 use Rattle.refusals.specs.declared.Answer.{Answer}
@@ -25,7 +25,6 @@ use Rattle.steps.specs.Steps.{doneOf, firedOf, quietOf, framedOf, frameOf, step
 use Rattle.steps.specs.Replies.{replyOf, outcomeReply}
 use Rattle.steps.proofs.Together.{answered-is, outcome-is}
 use Rattle.turns.specs.declared.Said.{Said}
-use Rattle.turns.specs.declared.Turn.{Turn}
 use Rattle.turns.specs.Saying.{saidOf}
 use Rattle.turns.specs.Turns.{toldOf, repliedOf, afterOf, turnOf}
 use Rattle.turns.proofs.Laws.{said-as}
