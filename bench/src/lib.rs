@@ -2,6 +2,7 @@
 //! distances.
 #[cfg(original)]
 pub mod calls;
+pub mod events;
 pub mod precise;
 pub mod reference;
 pub mod tables;
@@ -17,6 +18,56 @@ mod linked {
         pub fn rk_sqrt(x: f32) -> f32;
         pub fn rk_probe_rem_euclid64(x: f64, m: f64) -> f64;
         pub fn rk_script(script: *const u8, length: usize, out: *mut u8, room: usize) -> u32;
+        pub fn rk_write_rate(rate: f32, out: *mut u8, room: usize, at: *mut u64) -> u32;
+        pub fn rk_write_configure(
+            enabled: bool,
+            shape: u8,
+            direction: u8,
+            rate_hz: f32,
+            size_octaves: f32,
+            phase: f32,
+            scheduled: bool,
+            sync: bool,
+            hop_samples: usize,
+            partials: usize,
+            partial_rolloff_db: f32,
+            attack_ms: f32,
+            release_ms: f32,
+            out: *mut u8,
+            room: usize,
+            at: *mut u64,
+        ) -> u32;
+        pub fn rk_write_source(
+            slot: u16,
+            frequency_hz: f32,
+            strength: f32,
+            eligible: bool,
+            out: *mut u8,
+            room: usize,
+            at: *mut u64,
+        ) -> u32;
+        pub fn rk_write_retire(slot: u16, out: *mut u8, room: usize, at: *mut u64) -> u32;
+        pub fn rk_write_release(slot: u16, out: *mut u8, room: usize, at: *mut u64) -> u32;
+        pub fn rk_write_trigger(slot: u16, out: *mut u8, room: usize, at: *mut u64) -> u32;
+        pub fn rk_write_seek(cycles: f64, out: *mut u8, room: usize, at: *mut u64) -> u32;
+        pub fn rk_write_advance(samples: u32, out: *mut u8, room: usize, at: *mut u64) -> u32;
+        pub fn rk_write_frame(
+            bin_hz: f32,
+            elapsed: f32,
+            out: *mut u8,
+            room: usize,
+            at: *mut u64,
+        ) -> u32;
+        pub fn rk_write_note_input(present: bool, out: *mut u8, room: usize, at: *mut u64) -> u32;
+        pub fn rk_write_reset(out: *mut u8, room: usize, at: *mut u64) -> u32;
+        pub fn rk_write_reserve(out: *mut u8, room: usize, at: *mut u64) -> u32;
+        pub fn rk_write_reserved_trigger(
+            slot: u16,
+            index: u64,
+            out: *mut u8,
+            room: usize,
+            at: *mut u64,
+        ) -> u32;
         pub fn rk_probe_gains(
             flat: *const f32,
             flat_len: usize,

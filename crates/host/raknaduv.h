@@ -3,6 +3,7 @@
 #ifndef RAKNADUV_H
 #define RAKNADUV_H
 
+#include <stdbool.h>
 #include <stddef.h>
 #include <stdint.h>
 
@@ -25,6 +26,34 @@ float rk_sqrt(float x);   /* square root, correctly rounded */
  * number of the field that went bad (1, 8, 9, 10, 11), and `out` is as it was. docs/HOSTS.md has a
  * program. */
 uint32_t rk_script(const uint8_t *script, size_t length, uint8_t *out, size_t room);
+
+/* Writes an event script, one call for each event. Lent: `out`, of `room` bytes, and `*at`, how many of
+ * them are written, which must not overlap `out`. Answers 0 with the event behind those and `*at` moved on
+ * by it, or 13 where fewer bytes are free than it takes, or `*at` is above `room`, and all is as it was.
+ * Every NaN is written as 7FC00000, in a seek as 7FF8000000000000. No number is refused here: the reader
+ * and the engine do that where the script is run. */
+uint32_t rk_write_rate(float rate, uint8_t *out, size_t room, uint64_t *at); /* 7 bytes */
+/* Shape: 0 is Sprinkle, all else Cloud. Direction: 0 is forward, 1 reverse, all else alternate. A hop or a
+ * number of partials above 2^32 - 1 is written as 2^32 - 1, which the engine answers alike. */
+uint32_t rk_write_configure(bool enabled, uint8_t shape, uint8_t direction, float rate_hz,
+                            float size_octaves, float phase, bool scheduled, bool sync,
+                            size_t hop_samples, size_t partials, float partial_rolloff_db,
+                            float attack_ms, float release_ms,
+                            uint8_t *out, size_t room, uint64_t *at); /* 40 bytes */
+uint32_t rk_write_source(uint16_t slot, float frequency_hz, float strength, bool eligible,
+                         uint8_t *out, size_t room, uint64_t *at); /* 14 bytes */
+uint32_t rk_write_retire(uint16_t slot, uint8_t *out, size_t room, uint64_t *at); /* 5 bytes */
+uint32_t rk_write_release(uint16_t slot, uint8_t *out, size_t room, uint64_t *at); /* 5 bytes */
+uint32_t rk_write_trigger(uint16_t slot, uint8_t *out, size_t room, uint64_t *at); /* 5 bytes */
+uint32_t rk_write_seek(double cycles, uint8_t *out, size_t room, uint64_t *at); /* 11 bytes */
+uint32_t rk_write_advance(uint32_t samples, uint8_t *out, size_t room, uint64_t *at); /* 7 bytes */
+uint32_t rk_write_frame(float bin_hz, float elapsed, /* in seconds */
+                        uint8_t *out, size_t room, uint64_t *at); /* 11 bytes */
+uint32_t rk_write_note_input(bool present, uint8_t *out, size_t room, uint64_t *at); /* 4 bytes */
+uint32_t rk_write_reset(uint8_t *out, size_t room, uint64_t *at); /* 3 bytes */
+uint32_t rk_write_reserve(uint8_t *out, size_t room, uint64_t *at); /* 3 bytes */
+uint32_t rk_write_reserved_trigger(uint16_t slot, uint64_t index, /* one that a reserve set aside */
+                                   uint8_t *out, size_t room, uint64_t *at); /* 13 bytes */
 
 #ifdef __cplusplus
 }

@@ -1,4 +1,5 @@
-// What a host in Rust or C may call: the elementary functions on numbers, and a script on lent bytes.
+// What a host in Rust or C may call: the elementary functions on numbers, a script on lent bytes, and
+// the writer of events.
 ghost use Rattle.power64.specs.Exp64 as Exp64;
 ghost use Rattle.elementary.specs.Log2.{log2Of};
 ghost use Rattle.powers.specs.Power as Power;
@@ -6,6 +7,8 @@ ghost use Rattle.elementary.specs.Sqrt.{sqrtOf};
 ghost use Rattle.entry.specs.Entry.{entryAnswer, entryBytes};
 ghost use Rattle.refusals.specs.Numbers.{answerOf};
 ghost use mathlib.Core.Path.{_≡_};
+
+mod write;
 
 #[no_mangle]
 pub extern "C" fn rk_log2(x: f32) -> f32

@@ -5,13 +5,13 @@ use mathlib.Core.List.{List, [], _∷_}
 use lib.ListN.{length}
 use lib.Dec.{leb, ltb}
 use Rattle.text.specs.Put.{splice}
-use Rattle.refusals.specs.declared.Refusal.the-variants.{Script}
+use Rattle.refusals.specs.declared.Refusal.the-variants.{Script, Room}
 use Rattle.lines.specs.Lines.{textAll}
 use Rattle.lines.specs.declared.Line.{Line}
 use Rattle.lines.specs.declared.Line.the-variants as L
 use Rattle.turns.specs.Late.{turnsLate}
 use Rattle.listing.specs.declared.Listed.{Listed}
-use Rattle.listing.specs.declared.Listed.the-variants.{Count, NoRoom}
+use Rattle.listing.specs.declared.Listed.the-variants.{Count, Refused}
 use Rattle.listing.specs.Printed.{linesOf}
 use Rattle.listing.specs.Listed.{roomFor}
 
@@ -22,7 +22,7 @@ unfoldable pub printedLate : ℕ → List ℕ → List ℕ
 printedLate start s = textAll (linesLate start s)
 
 abbrev pub listedLate : ℕ → ℕ → List ℕ → Listed
-listedLate start has s = cond (ltb has (roomFor (length s))) NoRoom (Count (length (printedLate start s)))
+listedLate start has s = cond (ltb has (roomFor (length s))) (Refused Room) (Count (length (printedLate start s)))
 
 abbrev pub leftLate : ℕ → List ℕ → List ℕ → List ℕ
 leftLate start o s = cond (ltb (length o) (roomFor (length s))) o (splice o 0 (printedLate start s))

@@ -18,7 +18,7 @@ use turns::one_turn;
 
 pub enum Listed {
     Count(usize),
-    NoRoom,
+    Refused(Refusal),
 }
 
 // The lines from field n on, which stands at `at`, behind what `out` has before w. Fields that print
@@ -86,14 +86,14 @@ pub fn list_script_from(start: u64, script: &[u8], out: &mut [u8]) -> Listed
 {
     let needed = room(script.len());
     if out.len() < needed {
-        return Listed::NoRoom;
+        return Listed::Refused(Refusal::Room);
     }
     let n = listing(start, script, out);
     Listed::Count(n)
 }
 
-// What the script prints, at the start of `out`, and the count of its bytes. `out` has room for the
-// longest listing of so many bytes of script, or is left as it is.
+// What the script prints, at the start of `out`, and the count of its bytes; 13, and `out` as it was,
+// where that has no room for the longest listing of so many bytes of script.
 pub fn list_script(script: &[u8], out: &mut [u8]) -> Listed
     ensures { λ r. ⌜ (r ≡ listedOf (length (now (out .entry))) (now (script .entry))) × (now (out .exit) ≡ leftIn (now (out .entry)) (now (script .entry))) ⌝ }
 {

@@ -9,7 +9,7 @@ fn play_into(script: &mut [u8], out: &mut [u8]) {
                 io::write_all(1, &out[..k]);
             }
         }
-        Listed::NoRoom => {}
+        Listed::Refused(_) => {}
     }
 }
 

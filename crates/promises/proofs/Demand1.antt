@@ -40,6 +40,7 @@ use Rattle.script.specs.Field.{misplaced, unknown, bodyOf, readOf}
 use Rattle.ending.specs.declared.Ended.{Ended}
 use Rattle.ending.specs.Ended.{ranOf}
 use Rattle.entry.specs.Entry.{entryAnswer, ifTaken, entryBytes}
+use Rattle.promises.proofs.Writing.{listed-by, unlisted-by, written-by, unwritten-by}
 use Rattle.promises.specs.Demand1.{Row, firstOf, NoneHolds, Given, badSlot, readNumber, Kept, Demand1}
 
 -- ---- the first test that holds
@@ -219,4 +220,8 @@ demand1 =
           field-read (eqb (length s) 0) first (ltb (length s) 3) (misplaced (getD s 0 0) first) (unknown (getD s 0 0)) (eqb (be16 s 1) (lengthOf k)) (leb (lengthOf k) (length s - 3)) (lawful k (drop 3 s)) _ _;
       entry = λ s o. entered (eqb (length o) 2308) (leb (length s) 60000) _ _ refl;
       entry-leaves = entry-unwritten;
+      list = listed-by;
+      list-leaves = unlisted-by;
+      write = written-by;
+      write-leaves = unwritten-by;
     }

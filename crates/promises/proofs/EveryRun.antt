@@ -1,8 +1,8 @@
 -- What every run keeps: call by call and act by act, from where the run begins.
-use mathlib.Core.Path.{_≡_, sym, subst}
-use mathlib.Core.List.{List, [], _∷_, _++_}
+use mathlib.Core.Path.{sym, subst}
+use mathlib.Core.List.{List, [], _∷_}
 use Rattle.state.specs.declared.Engine.{Engine}
-use Rattle.runs.specs.Acts.{Act, perform, Call, actsOf, applied}
+use Rattle.runs.specs.Acts.{perform, Call, actsOf, applied}
 use Rattle.runs.proofs.Sound.{Sound}
 use Rattle.runs.proofs.Performed.{calls-are-acts}
 use Rattle.runs.proofs.Moments.{AllMeant, sound-performed, meant-before, calls-meant}

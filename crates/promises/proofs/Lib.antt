@@ -1,7 +1,9 @@
 pub mod Demand1
 pub mod Demand3
+pub mod EveryRun
 pub mod Lives
 pub mod Marked
 pub mod Quiet
+pub mod RoundTrip
 pub mod Stories
-pub mod EveryRun
+pub mod Writing

@@ -32,6 +32,13 @@ use Rattle.script.specs.declared.Read.the-variants as R
 use Rattle.fields.specs.Bytes.{be16}
 use Rattle.fields.specs.Table.{kindOf, lengthOf, lawful}
 use Rattle.script.specs.Field.{misplaced, unknown, readOf}
+use Rattle.fields.specs.declared.Field.{Field}
+use Rattle.text.specs.Put.{bufferOf}
+use Rattle.writer.specs.Encoded.{encoded}
+use Rattle.writer.specs.Written.{writtenOf}
+use Rattle.listing.specs.declared.Listed.{Listed}
+use Rattle.listing.specs.declared.Listed.the-variants as L
+use Rattle.listing.specs.Listed.{roomFor, listedOf, leftIn}
 use Rattle.ending.specs.Ended.{badOf}
 use Rattle.turns.specs.Last.{lastTurn}
 use Rattle.entry.specs.Entry.{entryAnswer, entryBytes}
@@ -69,6 +76,10 @@ abbrev pub readNumber : Read → ℕ
 readNumber (R.Field f k) = 0
 readNumber (R.Bad r) = numberOf r
 readNumber R.End = 0
+
+abbrev pub listedNumber : Listed → ℕ
+listedNumber (L.Count n) = 0
+listedNumber (L.Refused r) = numberOf r
 
 -- a refusal leaves the engine as it was
 abbrev pub Kept : Engine → Done → Type 0
@@ -124,3 +135,10 @@ pub record Demand1 : Type 0 where
   pub entry : (s o : List ℕ)
       → answerOf (entryAnswer s o) ≡ firstOf ((not (eqb (length o) 2308), 5) ∷ (not (leb (length s) 60000), 12) ∷ (true, answerOf (badOf (lastTurn s .line))) ∷ [])
   pub entry-leaves : (s o : List ℕ) → (answerOf (entryAnswer s o) ≡ 0 → ⊥) → entryBytes s o ≡ o
+  -- the listing of a script: 13 where the lent buffer has no room for the longest listing of so many bytes
+  pub list : (s o : List ℕ) → listedNumber (listedOf (length o) s) ≡ firstOf ((ltb (length o) (roomFor (length s)), 13) ∷ [])
+  pub list-leaves : (s o : List ℕ) → (listedNumber (listedOf (length o) s) ≡ 0 → ⊥) → leftIn o s ≡ o
+  -- an event into a lent buffer that holds `at` bytes: 13 where the free bytes are fewer than it needs; the count so far and the bytes then stay
+  pub write : (f : Field) (o : List ℕ) (at : ℕ) → answerOf (writtenOf (length o) at (encoded f) .answer) ≡ firstOf ((ltb (length o - at) (length (encoded f)), 13) ∷ [])
+  pub write-leaves : (f : Field) (o : List ℕ) (at : ℕ) → (answerOf (writtenOf (length o) at (encoded f) .answer) ≡ 0 → ⊥)
+      → (writtenOf (length o) at (encoded f) .count ≡ at) × (bufferOf o at (encoded f) ≡ o)

@@ -3,4 +3,5 @@ pub mod Demand3
 pub mod EveryRun
 pub mod Life
 pub mod Marked
+pub mod RoundTrip
 pub mod Runs

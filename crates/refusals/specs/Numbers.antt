@@ -1,7 +1,7 @@
 -- 01's numbers of the refusals, and of an answer. Definitions only.
 use Prim.Native.Nat.{ℕ}
 use Rattle.refusals.specs.declared.Refusal.{Refusal}
-use Rattle.refusals.specs.declared.Refusal.the-variants.{Rate, Slot, Size, Elapsed, Lengths, Logs, Seconds, Tag, Cut, Value, Place, Script}
+use Rattle.refusals.specs.declared.Refusal.the-variants.{Rate, Slot, Size, Elapsed, Lengths, Logs, Seconds, Tag, Cut, Value, Place, Script, Room}
 use Rattle.refusals.specs.declared.Answer.{Answer}
 use Rattle.refusals.specs.declared.Answer.the-variants.{Taken, Refused}
 
@@ -30,6 +30,8 @@ numberOf Value = 10
 numberOf Place = 11
 -- a script above 60,000 bytes
 numberOf Script = 12
+-- the lent buffer has too few free bytes
+numberOf Room = 13
 
 abbrev pub answerOf : Answer → ℕ
 answerOf Taken = 0

@@ -1,4 +1,4 @@
-// What a call answers, and the numbers of the refusals (01, "Refusal numbers").
+// What a call answers, and the numbers of the refusals (01, "Refusal numbers", and the orders' own).
 ghost use mathlib.Core.Path.{_≡_};
 ghost use Rattle.refusals.specs.Numbers.{numberOf, answerOf};
 
@@ -15,6 +15,7 @@ pub enum Refusal {
     Value,
     Place,
     Script,
+    Room,
 }
 
 pub enum Answer {
@@ -38,6 +39,7 @@ pub fn number(r: Refusal) -> u64
         Refusal::Value => 10,
         Refusal::Place => 11,
         Refusal::Script => 12,
+        Refusal::Room => 13,
     }
 }
 

@@ -19,14 +19,14 @@ use Rattle.steps.specs.Steps.{fresh}
 use Rattle.turns.specs.Turns.{turnOf}
 use Rattle.turns.specs.Late.{countedOf}
 use Rattle.listing.specs.declared.Listed.{Listed}
-use Rattle.listing.specs.declared.Listed.the-variants.{Count, NoRoom}
+use Rattle.listing.specs.declared.Listed.the-variants.{Count, Refused}
 use Rattle.states.specs.State.{stateBytes}
 use Rattle.entry.specs.Entry.{frameBytes}
 
 -- no room is 0
 abbrev pub countOf : Listed → ℕ
 countOf (Count n) = n
-countOf NoRoom = 0
+countOf (Refused r) = 0
 
 -- the first field makes the engine, which has counted so many samples then
 unfoldable pub afterOf : ℕ → ℕ → Run → Run

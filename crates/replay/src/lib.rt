@@ -19,7 +19,7 @@ fn count(listed: Listed) -> usize
 {
     match listed {
         Listed::Count(n) => n,
-        Listed::NoRoom => 0,
+        Listed::Refused(_) => 0,
     }
 }
 

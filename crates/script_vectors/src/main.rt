@@ -110,7 +110,7 @@ fn listing_differs(line: &[u8; 84], script: &mut [u8], want: &mut [u8], out: &mu
             }
             true
         }
-        Listed::NoRoom => true,
+        Listed::Refused(_) => true,
     }
 }
 

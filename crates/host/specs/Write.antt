@@ -1,0 +1,49 @@
+-- A host's numbers as settings, and what a host sees of a write. Definitions only.
+use Prim.Native.Nat.{ℕ}
+use mathlib.Core.Bool.{Bool, cond}
+use mathlib.Core.List.{List}
+use lib.ListN.{length}
+use lib.Dec.{eqb}
+use lib.Ieee.{Float}
+use Rattle.text.specs.Put.{bufferOf}
+use Rattle.refusals.specs.Numbers.{answerOf}
+use Rattle.fields.specs.declared.Field.{Field}
+use Rattle.writer.specs.Encoded.{encoded}
+use Rattle.writer.specs.Written.{writtenOf}
+use Rattle.settings.specs.declared.Config.{Config}
+use Rattle.settings.specs.declared.Shape.{Shape}
+use Rattle.settings.specs.declared.Shape.the-variants.{Sprinkle, Cloud}
+use Rattle.settings.specs.declared.Direction.{Direction}
+use Rattle.settings.specs.declared.Direction.the-variants.{Forward, Reverse, Alternate}
+
+-- 0 is Sprinkle, all else Cloud
+unfoldable pub shapeFrom : ℕ → Shape
+shapeFrom n = cond (eqb n 0) Sprinkle Cloud
+
+-- 0 is forward, 1 reverse, all else alternate
+unfoldable pub directionFrom : ℕ → Direction
+directionFrom n = cond (eqb n 0) Forward (cond (eqb n 1) Reverse Alternate)
+
+abbrev pub configFrom : Bool → ℕ → ℕ → Float → Float → Float → Bool → Bool → ℕ → ℕ → Float → Float → Float → Config
+configFrom enabled shape direction rate size phase scheduled sync hop partials rolloff attack release =
+    record {
+      enabled = enabled;
+      shape = shapeFrom shape;
+      direction = directionFrom direction;
+      «rate_hz» = rate;
+      «size_octaves» = size;
+      phase = phase;
+      scheduled = scheduled;
+      sync = sync;
+      «hop_samples» = hop;
+      partials = partials;
+      «partial_rolloff_db» = rolloff;
+      «attack_ms» = attack;
+      «release_ms» = release;
+    }
+
+-- the number of the answer, the count behind its reference, and the buffer
+abbrev pub writtenAt : List ℕ → ℕ → Field → ℕ × ℕ × List ℕ
+writtenAt o at f =
+    let w = writtenOf (length o) at (encoded f) in
+    (answerOf (w .answer), w .count, bufferOf o at (encoded f))

@@ -1,0 +1,31 @@
+-- ORDER 2, as it is promised: what was written is read back, and what was read is written back.
+use Prim.Native.Nat.{ℕ, _+_, _≤_}
+use mathlib.Core.Path.{_≡_}
+use mathlib.Core.List.{List}
+use lib.ListN.{length}
+use Rattle.lists.specs.Every.{Every}
+use Rattle.fields.specs.declared.Field.{Field}
+use Rattle.reading.specs.Reading.{readingOf, ended}
+use Rattle.settings.specs.declared.Config.{Config}
+use Rattle.state.specs.declared.Engine.{Engine}
+use Rattle.changes.specs.Changes.{configuredOf}
+use Rattle.fields.specs.declared.Field.the-variants as F
+use Rattle.writer.specs.Encoded.{encoded, encodedAll}
+use Rattle.text.specs.Put.{splice}
+use Rattle.writer_laws.specs.InARow.{countAfter, bytesAfter}
+use Rattle.writer_laws.specs.Wide.{heldConfig}
+use Rattle.writer_laws.specs.Events.{Held, Ordered, PlainNans, Byte, events}
+
+pub record RoundTrip : Type 0 where
+  -- events that are written one behind the other, where there is room for all, stand in the buffer as the bytes of their list, and the rest of it stays
+  pub in-a-row : (es : List Field) (o : List ℕ) (at : ℕ) → at + length (encodedAll es) ≤ length o
+      → (countAfter o at es ≡ at + length (encodedAll es)) × (bytesAfter o at es ≡ splice o at (encodedAll es))
+  -- events that the form holds, in the order of a script and of lawful size, are read back; NaNs are one in the logic
+  pub read-back : (es : List Field) → Every Held es → Ordered es → length (encodedAll es) ≤ 60000
+      → (readingOf (encodedAll es) .verdict ≡ ended) × (events (readingOf (encodedAll es)) ≡ es)
+  -- a script that is read to its end and has no other NaN pattern is written back; its rate need not be lawful
+  pub written-back : (s : List ℕ) → Every Byte s → readingOf s .verdict ≡ ended → Every (PlainNans s) (readingOf s .fields)
+      → encodedAll (events (readingOf s)) ≡ s
+  -- settings that the form cannot hold are written as those that it can, and the engine answers both alike
+  pub wide-written : (c : Config) → encoded (F.Configure (heldConfig c)) ≡ encoded (F.Configure c)
+  pub wide-alike : (e : Engine) (c : Config) → configuredOf e (heldConfig c) ≡ configuredOf e c

@@ -1,0 +1,4 @@
+pub mod Places
+pub mod Script
+pub mod Steps
+pub mod Whole

@@ -1,0 +1,1 @@
+// Laws of the turns of a script. It has no code.

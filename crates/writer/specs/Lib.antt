@@ -1,0 +1,3 @@
+pub mod Encoded
+pub mod Kinds
+pub mod Written
