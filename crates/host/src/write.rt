@@ -2,18 +2,17 @@
 // was.
 ghost use mathlib.Core.Path.{_≡_};
 ghost use Rattle.fields.specs.declared.Field.the-variants as F;
+ghost use Rattle.refusals.specs.Numbers.{answerOf};
 ghost use Rattle.host.specs.Write.{shapeFrom, directionFrom, configFrom, writtenAt};
-use fields::Field;
 use settings::Config;
 use settings::Direction;
 use settings::Shape;
+use writer::Written;
 
-// The field behind the count that stands behind `at`, and the number of the answer.
-fn write_at(field: Field, out: &mut [u8], at: &mut u64) -> u32
-    ensures { λ r. ⌜ (r, now (at .exit), now (out .exit)) ≡ writtenAt (now (out .entry)) (now (at .entry)) field ⌝ }
+// The count after a write goes behind `at`; the answer, by its number, comes back.
+fn told(written: Written, at: &mut u64) -> u32
+    ensures { λ r. ⌜ (r ≡ answerOf (written .answer)) × (now (at .exit) ≡ written .count) ⌝ }
 {
-    let from = *at as usize;
-    let written = writer::write_field(field, out, from);
     *at = written.count as u64;
     let answer = written.answer;
     refusals::answer_number(answer) as u32
@@ -47,7 +46,8 @@ fn direction_from(n: u8) -> Direction
 pub extern "C" fn rk_write_rate(rate: f32, out: &mut [u8], at: &mut u64) -> u32
     ensures { λ r. ⌜ (r, now (at .exit), now (out .exit)) ≡ writtenAt (now (out .entry)) (now (at .entry)) (F.Rate rate) ⌝ }
 {
-    write_at(Field::Rate(rate), out, at)
+    let written = writer::write_rate(rate, out, *at as usize);
+    told(written, at)
 }
 
 #[no_mangle]
@@ -85,7 +85,8 @@ pub extern "C" fn rk_write_configure(
         attack_ms,
         release_ms,
     };
-    write_at(Field::Configure(config), out, at)
+    let written = writer::write_configure(config, out, *at as usize);
+    told(written, at)
 }
 
 #[no_mangle]
@@ -99,74 +100,80 @@ pub extern "C" fn rk_write_source(
 ) -> u32
     ensures { λ r. ⌜ (r, now (at .exit), now (out .exit)) ≡ writtenAt (now (out .entry)) (now (at .entry)) (F.Source slot «frequency_hz» strength eligible) ⌝ }
 {
-    write_at(
-        Field::Source(slot, frequency_hz, strength, eligible),
-        out,
-        at,
-    )
+    let written = writer::write_source(slot, frequency_hz, strength, eligible, out, *at as usize);
+    told(written, at)
 }
 
 #[no_mangle]
 pub extern "C" fn rk_write_retire(slot: u16, out: &mut [u8], at: &mut u64) -> u32
     ensures { λ r. ⌜ (r, now (at .exit), now (out .exit)) ≡ writtenAt (now (out .entry)) (now (at .entry)) (F.Retire slot) ⌝ }
 {
-    write_at(Field::Retire(slot), out, at)
+    let written = writer::write_retire(slot, out, *at as usize);
+    told(written, at)
 }
 
 #[no_mangle]
 pub extern "C" fn rk_write_release(slot: u16, out: &mut [u8], at: &mut u64) -> u32
     ensures { λ r. ⌜ (r, now (at .exit), now (out .exit)) ≡ writtenAt (now (out .entry)) (now (at .entry)) (F.Release slot) ⌝ }
 {
-    write_at(Field::Release(slot), out, at)
+    let written = writer::write_release(slot, out, *at as usize);
+    told(written, at)
 }
 
 #[no_mangle]
 pub extern "C" fn rk_write_trigger(slot: u16, out: &mut [u8], at: &mut u64) -> u32
     ensures { λ r. ⌜ (r, now (at .exit), now (out .exit)) ≡ writtenAt (now (out .entry)) (now (at .entry)) (F.Trigger slot) ⌝ }
 {
-    write_at(Field::Trigger(slot), out, at)
+    let written = writer::write_trigger(slot, out, *at as usize);
+    told(written, at)
 }
 
 #[no_mangle]
 pub extern "C" fn rk_write_seek(cycles: f64, out: &mut [u8], at: &mut u64) -> u32
     ensures { λ r. ⌜ (r, now (at .exit), now (out .exit)) ≡ writtenAt (now (out .entry)) (now (at .entry)) (F.Seek cycles) ⌝ }
 {
-    write_at(Field::Seek(cycles), out, at)
+    let written = writer::write_seek(cycles, out, *at as usize);
+    told(written, at)
 }
 
 #[no_mangle]
 pub extern "C" fn rk_write_advance(samples: u32, out: &mut [u8], at: &mut u64) -> u32
     ensures { λ r. ⌜ (r, now (at .exit), now (out .exit)) ≡ writtenAt (now (out .entry)) (now (at .entry)) (F.Advance samples) ⌝ }
 {
-    write_at(Field::Advance(samples), out, at)
+    let written = writer::write_advance(samples, out, *at as usize);
+    told(written, at)
 }
 
 #[no_mangle]
 pub extern "C" fn rk_write_frame(bin_hz: f32, elapsed: f32, out: &mut [u8], at: &mut u64) -> u32
     ensures { λ r. ⌜ (r, now (at .exit), now (out .exit)) ≡ writtenAt (now (out .entry)) (now (at .entry)) (F.Frame «bin_hz» elapsed) ⌝ }
 {
-    write_at(Field::Frame(bin_hz, elapsed), out, at)
+    let written = writer::write_frame(bin_hz, elapsed, out, *at as usize);
+    told(written, at)
 }
 
 #[no_mangle]
 pub extern "C" fn rk_write_note_input(present: bool, out: &mut [u8], at: &mut u64) -> u32
     ensures { λ r. ⌜ (r, now (at .exit), now (out .exit)) ≡ writtenAt (now (out .entry)) (now (at .entry)) (F.NoteInput present) ⌝ }
 {
-    write_at(Field::NoteInput(present), out, at)
+    let written = writer::write_note_input(present, out, *at as usize);
+    told(written, at)
 }
 
 #[no_mangle]
 pub extern "C" fn rk_write_reset(out: &mut [u8], at: &mut u64) -> u32
     ensures { λ r. ⌜ (r, now (at .exit), now (out .exit)) ≡ writtenAt (now (out .entry)) (now (at .entry)) F.Reset ⌝ }
 {
-    write_at(Field::Reset, out, at)
+    let written = writer::write_reset(out, *at as usize);
+    told(written, at)
 }
 
 #[no_mangle]
 pub extern "C" fn rk_write_reserve(out: &mut [u8], at: &mut u64) -> u32
     ensures { λ r. ⌜ (r, now (at .exit), now (out .exit)) ≡ writtenAt (now (out .entry)) (now (at .entry)) F.Reserve ⌝ }
 {
-    write_at(Field::Reserve, out, at)
+    let written = writer::write_reserve(out, *at as usize);
+    told(written, at)
 }
 
 #[no_mangle]
@@ -178,5 +185,6 @@ pub extern "C" fn rk_write_reserved_trigger(
 ) -> u32
     ensures { λ r. ⌜ (r, now (at .exit), now (out .exit)) ≡ writtenAt (now (out .entry)) (now (at .entry)) (F.ReservedTrigger slot index) ⌝ }
 {
-    write_at(Field::ReservedTrigger(slot, index), out, at)
+    let written = writer::write_reserved_trigger(slot, index, out, *at as usize);
+    told(written, at)
 }

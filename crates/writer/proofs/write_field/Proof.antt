@@ -1,5 +1,4 @@
 -- `write_field` meets its contract: a case for each event.
-use Rattle.writer.specs.Encoded.{encoded}
 use borrow.Author.Needs.{needs}
 use Rattle.writer.proofs.write_field.Statement.{statement}
 use Rattle.writer.proofs.write_field.Tie as tie
@@ -7,298 +6,189 @@ use Rattle.writer.proofs.write_field.Tie as tie
 enum-known-field : tie.Need-enum-known-field
 enum-known-field c = search needs
 
-single-requires : tie.Need-single-requires
-single-requires c κs = search needs
-
-slice-aggregate-write-tagged : tie.Need-slice-aggregate-write-tagged
-slice-aggregate-write-tagged c = search needs
-
-write-tagged-requires : tie.Need-write-tagged-requires
-write-tagged-requires c κs = search needs
+write-rate-requires : tie.Need-write-rate-requires
+write-rate-requires c κs = search needs
 
 enum-known-field-2 : tie.Need-enum-known-field-2
 enum-known-field-2 c = search needs
 
-config-value-requires : tie.Need-config-value-requires
-config-value-requires c κs = search needs
-
-slice-aggregate-write-tagged-2 : tie.Need-slice-aggregate-write-tagged-2
-slice-aggregate-write-tagged-2 c = search needs
-
-write-tagged-requires-2 : tie.Need-write-tagged-requires-2
-write-tagged-requires-2 c κs = search needs
+write-configure-requires : tie.Need-write-configure-requires
+write-configure-requires c κs = search needs
 
 enum-known-field-3 : tie.Need-enum-known-field-3
 enum-known-field-3 c = search needs
 
-source-value-requires : tie.Need-source-value-requires
-source-value-requires c κs = search needs
-
-slice-aggregate-write-tagged-3 : tie.Need-slice-aggregate-write-tagged-3
-slice-aggregate-write-tagged-3 c = search needs
-
-write-tagged-requires-3 : tie.Need-write-tagged-requires-3
-write-tagged-requires-3 c κs = search needs
+write-source-requires : tie.Need-write-source-requires
+write-source-requires c κs = search needs
 
 enum-known-field-4 : tie.Need-enum-known-field-4
 enum-known-field-4 c = search needs
 
-bytes16-requires : tie.Need-bytes16-requires
-bytes16-requires c κs = search needs
-
-slice-aggregate-write-tagged-4 : tie.Need-slice-aggregate-write-tagged-4
-slice-aggregate-write-tagged-4 c = search needs
-
-write-tagged-requires-4 : tie.Need-write-tagged-requires-4
-write-tagged-requires-4 c κs = search needs
+write-retire-requires : tie.Need-write-retire-requires
+write-retire-requires c κs = search needs
 
 enum-known-field-5 : tie.Need-enum-known-field-5
 enum-known-field-5 c = search needs
 
-bytes16-requires-2 : tie.Need-bytes16-requires-2
-bytes16-requires-2 c κs = search needs
-
-slice-aggregate-write-tagged-5 : tie.Need-slice-aggregate-write-tagged-5
-slice-aggregate-write-tagged-5 c = search needs
-
-write-tagged-requires-5 : tie.Need-write-tagged-requires-5
-write-tagged-requires-5 c κs = search needs
+write-release-requires : tie.Need-write-release-requires
+write-release-requires c κs = search needs
 
 enum-known-field-6 : tie.Need-enum-known-field-6
 enum-known-field-6 c = search needs
 
-bytes16-requires-3 : tie.Need-bytes16-requires-3
-bytes16-requires-3 c κs = search needs
-
-slice-aggregate-write-tagged-6 : tie.Need-slice-aggregate-write-tagged-6
-slice-aggregate-write-tagged-6 c = search needs
-
-write-tagged-requires-6 : tie.Need-write-tagged-requires-6
-write-tagged-requires-6 c κs = search needs
+write-trigger-requires : tie.Need-write-trigger-requires
+write-trigger-requires c κs = search needs
 
 enum-known-field-7 : tie.Need-enum-known-field-7
 enum-known-field-7 c = search needs
 
-double-requires : tie.Need-double-requires
-double-requires c κs = search needs
-
-slice-aggregate-write-tagged-7 : tie.Need-slice-aggregate-write-tagged-7
-slice-aggregate-write-tagged-7 c = search needs
-
-write-tagged-requires-7 : tie.Need-write-tagged-requires-7
-write-tagged-requires-7 c κs = search needs
+write-seek-requires : tie.Need-write-seek-requires
+write-seek-requires c κs = search needs
 
 enum-known-field-8 : tie.Need-enum-known-field-8
 enum-known-field-8 c = search needs
 
-bytes32-requires : tie.Need-bytes32-requires
-bytes32-requires c κs = search needs
-
-slice-aggregate-write-tagged-8 : tie.Need-slice-aggregate-write-tagged-8
-slice-aggregate-write-tagged-8 c = search needs
-
-write-tagged-requires-8 : tie.Need-write-tagged-requires-8
-write-tagged-requires-8 c κs = search needs
+write-advance-requires : tie.Need-write-advance-requires
+write-advance-requires c κs = search needs
 
 enum-known-field-9 : tie.Need-enum-known-field-9
 enum-known-field-9 c = search needs
 
-frame-value-requires : tie.Need-frame-value-requires
-frame-value-requires c κs = search needs
-
-slice-aggregate-write-tagged-9 : tie.Need-slice-aggregate-write-tagged-9
-slice-aggregate-write-tagged-9 c = search needs
-
-write-tagged-requires-9 : tie.Need-write-tagged-requires-9
-write-tagged-requires-9 c κs = search needs
+write-frame-requires : tie.Need-write-frame-requires
+write-frame-requires c κs = search needs
 
 enum-known-field-10 : tie.Need-enum-known-field-10
 enum-known-field-10 c = search needs
 
-flag-requires : tie.Need-flag-requires
-flag-requires c κs = search needs
-
-slice-aggregate-write-tagged-10 : tie.Need-slice-aggregate-write-tagged-10
-slice-aggregate-write-tagged-10 c = search needs
-
-write-tagged-requires-10 : tie.Need-write-tagged-requires-10
-write-tagged-requires-10 c κs = search needs
+write-note-input-requires : tie.Need-write-note-input-requires
+write-note-input-requires c κs = search needs
 
 enum-told : tie.Need-enum-told
 enum-told c = search needs
 
-slice-aggregate-write-tagged-11 : tie.Need-slice-aggregate-write-tagged-11
-slice-aggregate-write-tagged-11 c = search needs
-
-write-tagged-requires-11 : tie.Need-write-tagged-requires-11
-write-tagged-requires-11 c κs = search needs
+write-reset-requires : tie.Need-write-reset-requires
+write-reset-requires c κs = search needs
 
 enum-told-2 : tie.Need-enum-told-2
 enum-told-2 c = search needs
 
-slice-aggregate-write-tagged-12 : tie.Need-slice-aggregate-write-tagged-12
-slice-aggregate-write-tagged-12 c = search needs
-
-write-tagged-requires-12 : tie.Need-write-tagged-requires-12
-write-tagged-requires-12 c κs = search needs
+write-reserve-requires : tie.Need-write-reserve-requires
+write-reserve-requires c κs = search needs
 
 enum-known-field-11 : tie.Need-enum-known-field-11
 enum-known-field-11 c = search needs
 
-reserved-value-requires : tie.Need-reserved-value-requires
-reserved-value-requires c κs = search needs
-
-slice-aggregate-write-tagged-13 : tie.Need-slice-aggregate-write-tagged-13
-slice-aggregate-write-tagged-13 c = search needs
-
-write-tagged-requires-13 : tie.Need-write-tagged-requires-13
-write-tagged-requires-13 c κs = search needs
+write-reserved-trigger-requires : tie.Need-write-reserved-trigger-requires
+write-reserved-trigger-requires c κs = search needs
 
 same-length : tie.Need-same-length
 same-length c = search needs
 
 returns : tie.Need-returns
-unfolding encoded
-returns c = rw (c .before .before .before .before .before .before .before .field .given .1) (rw (c .before .before .before .before .before .single .ensures) at (c .before .before .write-tagged .ensures))
+returns c = rw (c .before .before .before .before .before .field .given .1) (c .before .before .write-rate .ensures)
 
 same-length-2 : tie.Need-same-length-2
 same-length-2 c = search needs
 
 returns-2 : tie.Need-returns-2
-unfolding encoded
-returns-2 c = rw (c .before .before .before .before .before .before .before .field2 .given .1) (rw (c .before .before .before .before .before .config-value .ensures) at (c .before .before .write-tagged2 .ensures))
+returns-2 c = rw (c .before .before .before .before .before .field2 .given .1) (c .before .before .write-configure .ensures)
 
 same-length-3 : tie.Need-same-length-3
 same-length-3 c = search needs
 
 returns-3 : tie.Need-returns-3
-unfolding encoded
-returns-3 c = rw (c .before .before .before .before .before .before .before .field3 .given .1) (rw (c .before .before .before .before .before .source-value .ensures) at (c .before .before .write-tagged3 .ensures))
+returns-3 c = rw (c .before .before .before .before .before .field3 .given .1) (c .before .before .write-source .ensures)
 
 same-length-4 : tie.Need-same-length-4
 same-length-4 c = search needs
 
 returns-4 : tie.Need-returns-4
-unfolding encoded
-returns-4 c = rw (c .before .before .before .before .before .before .before .field4 .given .1) (rw (c .before .before .before .before .before .bytes16 .ensures) at (c .before .before .write-tagged4 .ensures))
+returns-4 c = rw (c .before .before .before .before .before .field4 .given .1) (c .before .before .write-retire .ensures)
 
 same-length-5 : tie.Need-same-length-5
 same-length-5 c = search needs
 
 returns-5 : tie.Need-returns-5
-unfolding encoded
-returns-5 c = rw (c .before .before .before .before .before .before .before .field5 .given .1) (rw (c .before .before .before .before .before .bytes162 .ensures) at (c .before .before .write-tagged5 .ensures))
+returns-5 c = rw (c .before .before .before .before .before .field5 .given .1) (c .before .before .write-release .ensures)
 
 same-length-6 : tie.Need-same-length-6
 same-length-6 c = search needs
 
 returns-6 : tie.Need-returns-6
-unfolding encoded
-returns-6 c = rw (c .before .before .before .before .before .before .before .field6 .given .1) (rw (c .before .before .before .before .before .bytes163 .ensures) at (c .before .before .write-tagged6 .ensures))
+returns-6 c = rw (c .before .before .before .before .before .field6 .given .1) (c .before .before .write-trigger .ensures)
 
 same-length-7 : tie.Need-same-length-7
 same-length-7 c = search needs
 
 returns-7 : tie.Need-returns-7
-unfolding encoded
-returns-7 c = rw (c .before .before .before .before .before .before .before .field7 .given .1) (rw (c .before .before .before .before .before .double .ensures) at (c .before .before .write-tagged7 .ensures))
+returns-7 c = rw (c .before .before .before .before .before .field7 .given .1) (c .before .before .write-seek .ensures)
 
 same-length-8 : tie.Need-same-length-8
 same-length-8 c = search needs
 
 returns-8 : tie.Need-returns-8
-unfolding encoded
-returns-8 c = rw (c .before .before .before .before .before .before .before .field8 .given .1) (rw (c .before .before .before .before .before .bytes32 .ensures) at (c .before .before .write-tagged8 .ensures))
+returns-8 c = rw (c .before .before .before .before .before .field8 .given .1) (c .before .before .write-advance .ensures)
 
 same-length-9 : tie.Need-same-length-9
 same-length-9 c = search needs
 
 returns-9 : tie.Need-returns-9
-unfolding encoded
-returns-9 c = rw (c .before .before .before .before .before .before .before .field9 .given .1) (rw (c .before .before .before .before .before .frame-value .ensures) at (c .before .before .write-tagged9 .ensures))
+returns-9 c = rw (c .before .before .before .before .before .field9 .given .1) (c .before .before .write-frame .ensures)
 
 same-length-10 : tie.Need-same-length-10
 same-length-10 c = search needs
 
 returns-10 : tie.Need-returns-10
-unfolding encoded
-returns-10 c = rw (c .before .before .before .before .before .before .before .field10 .given .1) (rw (c .before .before .before .before .before .flag .ensures) at (c .before .before .write-tagged10 .ensures))
+returns-10 c = rw (c .before .before .before .before .before .field10 .given .1) (c .before .before .write-note-input .ensures)
 
 same-length-11 : tie.Need-same-length-11
 same-length-11 c = search needs
 
 returns-11 : tie.Need-returns-11
-unfolding encoded
-returns-11 c = rw (c .before .before .before .before .before .enum-told .given .1) (c .before .before .write-tagged11 .ensures)
+returns-11 c = rw (c .before .before .before .before .enum-told .given .1) (c .before .before .write-reset .ensures)
 
 same-length-12 : tie.Need-same-length-12
 same-length-12 c = search needs
 
 returns-12 : tie.Need-returns-12
-unfolding encoded
-returns-12 c = rw (c .before .before .before .before .before .enum-told2 .given .1) (c .before .before .write-tagged12 .ensures)
+returns-12 c = rw (c .before .before .before .before .enum-told2 .given .1) (c .before .before .write-reserve .ensures)
 
 same-length-13 : tie.Need-same-length-13
 same-length-13 c = search needs
 
 returns-13 : tie.Need-returns-13
-unfolding encoded
-returns-13 c = rw (c .before .before .before .before .before .before .before .field11 .given .1) (rw (c .before .before .before .before .before .reserved-value .ensures) at (c .before .before .write-tagged13 .ensures))
+returns-13 c = rw (c .before .before .before .before .before .field11 .given .1) (c .before .before .write-reserved-trigger .ensures)
 
 pub write-field-spec : {M : Type 1} → statement M
 write-field-spec =
     tie.close
     (tie.spec
     enum-known-field
-    single-requires
-    slice-aggregate-write-tagged
-    write-tagged-requires
+    write-rate-requires
     enum-known-field-2
-    config-value-requires
-    slice-aggregate-write-tagged-2
-    write-tagged-requires-2
+    write-configure-requires
     enum-known-field-3
-    source-value-requires
-    slice-aggregate-write-tagged-3
-    write-tagged-requires-3
+    write-source-requires
     enum-known-field-4
-    bytes16-requires
-    slice-aggregate-write-tagged-4
-    write-tagged-requires-4
+    write-retire-requires
     enum-known-field-5
-    bytes16-requires-2
-    slice-aggregate-write-tagged-5
-    write-tagged-requires-5
+    write-release-requires
     enum-known-field-6
-    bytes16-requires-3
-    slice-aggregate-write-tagged-6
-    write-tagged-requires-6
+    write-trigger-requires
     enum-known-field-7
-    double-requires
-    slice-aggregate-write-tagged-7
-    write-tagged-requires-7
+    write-seek-requires
     enum-known-field-8
-    bytes32-requires
-    slice-aggregate-write-tagged-8
-    write-tagged-requires-8
+    write-advance-requires
     enum-known-field-9
-    frame-value-requires
-    slice-aggregate-write-tagged-9
-    write-tagged-requires-9
+    write-frame-requires
     enum-known-field-10
-    flag-requires
-    slice-aggregate-write-tagged-10
-    write-tagged-requires-10
+    write-note-input-requires
     enum-told
-    slice-aggregate-write-tagged-11
-    write-tagged-requires-11
+    write-reset-requires
     enum-told-2
-    slice-aggregate-write-tagged-12
-    write-tagged-requires-12
+    write-reserve-requires
     enum-known-field-11
-    reserved-value-requires
-    slice-aggregate-write-tagged-13
-    write-tagged-requires-13
+    write-reserved-trigger-requires
     same-length
     returns
     same-length-2
