@@ -1,11 +1,11 @@
 //! Finds the archives of the port and tells the program what they have, by the names that stand in
-//! them: the seven functions, the script entry, the probes.
+//! them: the seven functions, the script entry, the writer, the probes.
 use std::path::{Path, PathBuf};
 use std::{env, fs};
 
 /// Archive, a name in it, the library to link, and the `cfg` that says so. The probes' archives
 /// stand before the host's, whose functions they may share.
-const FOUND: [(&str, &str, &str, &str); 7] = [
+const FOUND: [(&str, &str, &str, &str); 9] = [
     ("libprobe.a", "rk_probe_floor32", "probe", "probed"),
     ("libreplay.a", "rk_probe_listing", "replay", "listed"),
     ("libreplay.a", "rk_probe_fields", "replay", "left"),
@@ -16,8 +16,15 @@ const FOUND: [(&str, &str, &str, &str); 7] = [
         "late_listed",
     ),
     ("libreplay.a", "rk_probe_fields_from", "replay", "late_left"),
+    (
+        "librewriting.a",
+        "rk_probe_rewritten",
+        "rewriting",
+        "rewritten",
+    ),
     ("libhost.a", "rk_log2", "host", "linked"),
     ("libhost.a", "rk_script", "host", "entry"),
+    ("libhost.a", "rk_write_rate", "host", "written"),
 ];
 
 pub fn link(here: &Path) {

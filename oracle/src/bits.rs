@@ -55,6 +55,30 @@ impl Bits for u32 {
     }
 }
 
+impl Bits for u16 {
+    fn edges() -> Vec<u64> {
+        whole_edges(16)
+    }
+    fn of(word: u64) -> u16 {
+        word as u16
+    }
+    fn word(self) -> u64 {
+        self.into()
+    }
+}
+
+impl Bits for u8 {
+    fn edges() -> Vec<u64> {
+        whole_edges(8)
+    }
+    fn of(word: u64) -> u8 {
+        word as u8
+    }
+    fn word(self) -> u64 {
+        self.into()
+    }
+}
+
 impl Bits for bool {
     fn edges() -> Vec<u64> {
         vec![0, 1]

@@ -4,7 +4,7 @@ use crate::arguments::{Arguments, ARGUMENTS};
 use crate::draws::mixed;
 use crate::part::Part;
 use crate::probes::{Probe, PROBED, PROBES};
-use crate::{elementary, late, lent, marked, masks, ours, reached, scripts};
+use crate::{elementary, late, lent, marked, masks, ours, reached, scripts, writing};
 use std::io::{self, Write};
 
 /// A part that differs shows this many of its cases.
@@ -42,7 +42,7 @@ impl<W: Write> Sum<'_, W> {
         ))?;
         self.some(failing)
     }
-    pub fn script_part(&mut self, part: &Part) -> io::Result<()> {
+    pub fn counted(&mut self, part: &Part) -> io::Result<()> {
         if part.here {
             self.part(&part.name, part.cases, &part.differing)
         } else {
@@ -79,7 +79,7 @@ pub fn compare(count: u64, base: u64, limit: u64, out: &mut impl Write) -> io::R
     };
     let claims = marked::marked();
     let failed: Vec<String> = claims.iter().filter(|c| !c.1).map(|c| c.0.into()).collect();
-    sum.own("what 01 states outright", claims.len(), &failed)?;
+    sum.own("what 01 and 02 state outright", claims.len(), &failed)?;
     let (_, differ) = masks::mask_lines(base.wrapping_add(1), MASKS);
     let differ = vec!["the original's own gains".to_string(); differ];
     sum.own("the mask where 01 follows the Rust", MASKS, &differ)?;
@@ -117,6 +117,7 @@ pub fn compare(count: u64, base: u64, limit: u64, out: &mut impl Write) -> io::R
     } else {
         sum.absent("the single layers (no libprobe.a)")?;
     }
+    writing::compare(base, &mut sum)?;
     scripts::compare(count, base, limit, &mut sum)?;
     let (cases, differ) = (sum.cases, sum.differ);
     let left_out = match sum.absent {

@@ -7,8 +7,10 @@ mod compare;
 mod digest;
 mod draws;
 mod elementary;
+mod encoder;
 mod ends;
 mod engine;
+mod events;
 mod exact;
 mod field;
 mod gen;
@@ -33,6 +35,7 @@ mod standin;
 mod state;
 mod stored;
 mod value;
+mod writing;
 
 /// The original with our functions.
 #[allow(dead_code, clippy::all)]

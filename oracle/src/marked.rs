@@ -1,7 +1,8 @@
 //! What 01 states outright, asked of the original: the twelve marked examples, the sample script,
-//! and SplitMix64's published outputs.
+//! and SplitMix64's published outputs. And what 02 states of the writer, asked of the encoder.
+use crate::encoder::{encoded, rewritten};
 use crate::engine::Particles;
-use crate::field::Settings;
+use crate::field::{Field, Settings};
 use crate::gen::script::Script;
 use crate::gen::values::settings;
 use crate::original::{open, Engine};
@@ -74,7 +75,22 @@ pub fn marked() -> Vec<(&'static str, bool)> {
             listing::listing::<Engine>(0, &SAMPLE) == SAMPLE_LISTING,
         ),
         ("10^9 cycles forward seek to 0", sought(1e9) == 0.0),
+        ("01's sample script written again", written_again(&SAMPLE)),
+        (
+            "a NaN is written as 7FC00000",
+            encoded(&Field::Rate(f32::from_bits(0xff80_0001)))[3..] == [0x7f, 0xc0, 0, 0],
+        ),
+        (
+            "a NaN in a seek is written as 7FF8000000000000",
+            encoded(&Field::Seek(f64::from_bits(u64::MAX)))[3..] == [0x7f, 0xf8, 0, 0, 0, 0, 0, 0],
+        ),
     ]
+}
+
+/// Whether the reading's fields of a script are encoded as the script.
+fn written_again(script: &[u8]) -> bool {
+    let mut bytes = vec![0; script.len()];
+    rewritten(script, &mut bytes) == script.len() && bytes == script
 }
 
 /// One float of the state after a script.

@@ -1,4 +1,4 @@
-//! A part of the comparison on scripts: how often the port was asked, and where it differs.
+//! A part of the comparison on scripts and events: how often the port was asked, and where it differs.
 use std::fmt::Display;
 
 pub struct Part {

@@ -37,12 +37,18 @@ extern "C" {
     ) -> usize;
 }
 
+#[cfg(rewritten)]
+extern "C" {
+    fn rk_probe_rewritten(script: *const u8, length: usize, out: *mut u8, room: usize) -> usize;
+}
+
 /// Which of these the archives have.
 pub const ENTRY: bool = cfg!(entry);
 pub const LISTED: bool = cfg!(listed);
 pub const LEFT: bool = cfg!(left);
 pub const LATE_LISTED: bool = cfg!(late_listed);
 pub const LATE_LEFT: bool = cfg!(late_left);
+pub const REWRITTEN: bool = cfg!(rewritten);
 
 /// 01's entry: its answer and the lent bytes after it.
 #[cfg(entry)]
@@ -101,5 +107,17 @@ pub fn fields_from(start: u64, script: &[u8], out: &mut [u8]) -> Option<usize> {
 
 #[cfg(not(late_left))]
 pub fn fields_from(_: u64, _: &[u8], _: &mut [u8]) -> Option<usize> {
+    None
+}
+
+/// The fields of a script, read and written again one behind the other: how many bytes.
+#[cfg(rewritten)]
+pub fn rewritten(script: &[u8], out: &mut [u8]) -> Option<usize> {
+    let (at, length) = (script.as_ptr(), script.len());
+    Some(unsafe { rk_probe_rewritten(at, length, out.as_mut_ptr(), out.len()) })
+}
+
+#[cfg(not(rewritten))]
+pub fn rewritten(_: &[u8], _: &mut [u8]) -> Option<usize> {
     None
 }

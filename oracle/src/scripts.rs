@@ -1,4 +1,5 @@
-//! The port on generated scripts of every kind in turn: entry, listing and what every field leaves.
+//! The port on generated scripts of every kind in turn: entry, listing, what every field leaves, and
+//! the script read and written again.
 use crate::bytes::{last_frame, SIZE};
 use crate::compare::Sum;
 use crate::draws::Draws;
@@ -9,6 +10,7 @@ use crate::listing::listing;
 use crate::original::Engine;
 use crate::part::Part;
 use crate::runner::SCRIPT_LIMIT;
+use crate::writing::Rewriting;
 use crate::{late, plain, port};
 use std::io::{self, Write};
 use std::iter;
@@ -100,6 +102,7 @@ pub fn compare<W: Write>(count: u64, base: u64, limit: u64, sum: &mut Sum<W>) ->
         ),
         Left::new("rk_probe_fields_from", port::LATE_LEFT),
     );
+    let mut rewriting = Rewriting::new();
     let mut same_plain = 0;
     for n in 0..count {
         let kind = &KINDS[(n % KINDS.len() as u64) as usize];
@@ -114,6 +117,7 @@ pub fn compare<W: Write>(count: u64, base: u64, limit: u64, sum: &mut Sum<W>) ->
         let long = long.map(|long| ("longer", long));
         for (what, bytes) in iter::once(("gen", bytes)).chain(long) {
             let name = format!("{what} {seed} {}", kind.name);
+            rewriting.compare(&name, &bytes, &mut Draws::new(base.wrapping_add(n), what));
             let found = new.compare(&name, 0, &bytes, limit);
             // A shorter script shows a frame in the middle.
             let some = match found.fields.as_slice() {
@@ -140,11 +144,12 @@ pub fn compare<W: Write>(count: u64, base: u64, limit: u64, sum: &mut Sum<W>) ->
              run would have more than {limit} samples, a field counted as ten"
         ))?;
     }
-    sum.script_part(&entry)?;
+    sum.counted(&rewriting.part())?;
+    sum.counted(&entry)?;
     for started in [new, late] {
-        sum.script_part(&started.listed)?;
+        sum.counted(&started.listed)?;
         for part in started.left.parts() {
-            sum.script_part(&part)?;
+            sum.counted(&part)?;
         }
     }
     let shown = count.min(PLAIN);
