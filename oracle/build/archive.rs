@@ -17,9 +17,9 @@ const FOUND: [(&str, &str, &str, &str); 9] = [
     ),
     ("libreplay.a", "rk_probe_fields_from", "replay", "late_left"),
     (
-        "librewriting.a",
+        "liboracle_rewrite.a",
         "rk_probe_rewritten",
-        "rewriting",
+        "oracle_rewrite",
         "rewritten",
     ),
     ("libhost.a", "rk_log2", "host", "linked"),

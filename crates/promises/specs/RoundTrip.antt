@@ -5,7 +5,7 @@ use mathlib.Core.List.{List}
 use lib.ListN.{length}
 use Rattle.lists.specs.Every.{Every}
 use Rattle.fields.specs.declared.Field.{Field}
-use Rattle.reading.specs.Reading.{readingOf, ended}
+use Rattle.script_reading.specs.Reading.{readingOf, ended}
 use Rattle.settings.specs.declared.Config.{Config}
 use Rattle.state.specs.declared.Engine.{Engine}
 use Rattle.changes.specs.Changes.{configuredOf}

@@ -1,4 +1,4 @@
--- 01's numbers of the refusals, and of an answer. Definitions only.
+-- The numbers of the refusals, 01's and behind them 02's, and of an answer. Definitions only.
 use Prim.Native.Nat.{ℕ}
 use Rattle.refusals.specs.declared.Refusal.{Refusal}
 use Rattle.refusals.specs.declared.Refusal.the-variants.{Rate, Slot, Size, Elapsed, Lengths, Logs, Seconds, Tag, Cut, Value, Place, Script, Room}
@@ -30,7 +30,7 @@ numberOf Value = 10
 numberOf Place = 11
 -- a script above 60,000 bytes
 numberOf Script = 12
--- the lent buffer has too few free bytes
+-- 02, order 2: the lent buffer has too few free bytes
 numberOf Room = 13
 
 abbrev pub answerOf : Answer → ℕ

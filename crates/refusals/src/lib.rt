@@ -1,4 +1,4 @@
-// What a call answers, and the numbers of the refusals (01, "Refusal numbers", and the orders' own).
+// What a call answers, and the numbers of the refusals: 01's ("Refusal numbers"), and behind them 02's.
 ghost use mathlib.Core.Path.{_≡_};
 ghost use Rattle.refusals.specs.Numbers.{numberOf, answerOf};
 

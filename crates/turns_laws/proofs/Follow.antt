@@ -14,8 +14,8 @@ use Rattle.steps.specs.Steps.{fresh, stepOf}
 use Rattle.refusals.specs.declared.Refusal.{Refusal}
 use Rattle.turns.specs.declared.Turn.{Turn}
 use Rattle.turns.specs.Turns.{refusalOf, repliedOf, turnOf, turnsFrom, turnsOf}
-use Rattle.reading.specs.Reading.{Reading, onward}
-use Rattle.reading.proofs.Steps.{Reads, field, wrong, end, onward-reads}
+use Rattle.script_reading.specs.Reading.{Reading, onward}
+use Rattle.script_reading.proofs.Steps.{Reads, field, wrong, end, onward-reads}
 use Rattle.turns_laws.specs.Over.{turnsOver}
 
 -- a turn that goes on has taken the field's bytes

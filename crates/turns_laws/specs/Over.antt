@@ -9,7 +9,7 @@ use Rattle.lines.specs.declared.Line.{Line}
 use Rattle.lines.specs.declared.Line.the-variants as L
 use Rattle.turns.specs.declared.Turn.{Turn}
 use Rattle.turns.specs.Turns.{toldOf, repliedOf}
-use Rattle.reading.specs.Reading.{Placed, Verdict, ended, bad}
+use Rattle.script_reading.specs.Reading.{Placed, Verdict, ended, bad}
 
 -- what a verdict prints, at field n
 abbrev pub lastLine : ℕ → Verdict → Line

@@ -1,3 +1,3 @@
+pub mod Config
 pub mod Room
 pub mod Sizes
-pub mod Spelled

@@ -20,7 +20,7 @@ use Rattle.fields.specs.declared.Field.{Field}
 use Rattle.fields.specs.declared.Field.the-variants as F
 use Rattle.script.specs.Field.{readOf, misplaced, unknown}
 use Rattle.script.specs.declared.Read.the-variants as R
-use Rattle.reading.proofs.Whole.{Whole, taken-whole}
+use Rattle.script_reading.proofs.Whole.{Whole, taken-whole}
 use Rattle.big_endian.specs.Bytes.{flagOf}
 use Rattle.writer.specs.Kinds.{shapeOf, directionOf}
 use Rattle.writer.specs.Encoded.{encoded, configBytes, held32}

@@ -12,9 +12,9 @@ use Rattle.lists.specs.Every.{Every}
 use Rattle.fields.specs.declared.Field.{Field}
 use Rattle.script.specs.Field.{readOf}
 use Rattle.script.specs.declared.Read.the-variants as R
-use Rattle.reading.specs.Reading.{Reading, placed, stopped, inFront, ended, readingOf}
-use Rattle.reading.proofs.Steps.{Reads, field, end, only, moved}
-use Rattle.reading.proofs.Whole.{end-of-all}
+use Rattle.script_reading.specs.Reading.{Reading, placed, stopped, inFront, ended, readingOf}
+use Rattle.script_reading.proofs.Steps.{Reads, field, end, only, moved}
+use Rattle.script_reading.proofs.Whole.{end-of-all}
 use Rattle.writer.proofs.Sizes.{three-bytes}
 use Rattle.writer.specs.Encoded.{encoded, encodedAll}
 use Rattle.writer_laws.specs.Events.{Held, NoRate, Ordered, events}

@@ -16,10 +16,10 @@ use Rattle.fields.specs.declared.Field.{Field}
 use Rattle.fields.specs.declared.Kind.{Kind}
 use Rattle.fields.specs.declared.Kind.the-variants as K
 use Rattle.script.specs.Field.{unknown}
-use Rattle.reading.specs.Reading.{Reading, ended, readingOf}
-use Rattle.reading.proofs.Steps.{Reads, field, wrong, end, onward-reads}
-use Rattle.reading.proofs.Whole.{Whole, whole, kindAt, end-is-empty}
-use Rattle.reading.proofs.Places.{bad-not-ended}
+use Rattle.script_reading.specs.Reading.{Reading, ended, readingOf}
+use Rattle.script_reading.proofs.Steps.{Reads, field, wrong, end, onward-reads}
+use Rattle.script_reading.proofs.Whole.{Whole, whole, kindAt, end-is-empty}
+use Rattle.script_reading.proofs.Places.{bad-not-ended}
 use Rattle.writer.specs.Encoded.{encoded, encodedAll}
 use Rattle.writer_laws.specs.Events.{Nans, PlainNans, Byte, events}
 use Rattle.writer_laws.proofs.Pieces.{tagOf, event-again}

@@ -11,7 +11,7 @@ use Rattle.settings.specs.declared.Config.{Config}
 use Rattle.fields.specs.Bytes.{be32, be64}
 use Rattle.fields.specs.declared.Field.{Field}
 use Rattle.fields.specs.declared.Field.the-variants as F
-use Rattle.reading.specs.Reading.{Placed, Reading}
+use Rattle.script_reading.specs.Reading.{Placed, Reading}
 
 -- ---- events
 abbrev pub Single : Float → Type 0

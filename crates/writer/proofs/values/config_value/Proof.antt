@@ -1,7 +1,7 @@
 -- `config_value` meets its contract: number by number, in the order of the form.
 use mathlib.Core.Path.{ap, _∙_}
 use Rattle.big_endian.specs.Bytes.{bytes32}
-use Rattle.writer.proofs.Spelled.{config-spelled}
+use Rattle.writer.proofs.Config.{config-spelled}
 use borrow.Author.Needs.{needs}
 use Rattle.writer.proofs.values.config_value.Statement.{statement}
 use Rattle.writer.proofs.values.config_value.Tie as tie

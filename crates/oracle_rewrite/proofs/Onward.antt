@@ -13,13 +13,13 @@ use Rattle.script.specs.declared.Read.{Read}
 use Rattle.script.specs.declared.Read.the-variants as R
 use Rattle.script.specs.Field.{readOf}
 use Rattle.script.proofs.Taken as T
-use Rattle.reading.specs.Reading.{onward}
-use Rattle.reading.proofs.Steps.{field, wrong, end, onward-reads, only}
+use Rattle.script_reading.specs.Reading.{onward}
+use Rattle.script_reading.proofs.Steps.{field, wrong, end, onward-reads, only}
 use Rattle.writer.specs.Encoded.{encoded}
 use Rattle.writer.specs.Written.{writtenOf}
 use Rattle.writer_laws.specs.Events.{events}
 use Rattle.writer_laws.specs.InARow.{countAfter, bytesAfter}
-use Rattle.rewriting.specs.Rewritten.{fieldIn, takenBy}
+use Rattle.oracle_rewrite.specs.Rewritten.{fieldIn, takenBy}
 
 -- ---- events one behind the other
 count-append : (es fs : List Field) (o : List ℕ) (w : ℕ) → countAfter o w (es ++ fs) ≡ countAfter (bytesAfter o w es) (countAfter o w es) fs

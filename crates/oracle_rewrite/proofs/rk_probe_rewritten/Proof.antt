@@ -2,10 +2,10 @@
 use mathlib.Core.Path.{refl}
 use borrow.Author.Needs.{needs}
 use borrow.Author.Tests.{le-leb, lt-leb}
-use Rattle.reading.specs.Reading.{readingOf}
+use Rattle.script_reading.specs.Reading.{readingOf}
 use Rattle.writer_laws.specs.InARow.{countAfter, bytesAfter}
-use Rattle.rewriting.proofs.rk_probe_rewritten.Statement.{statement}
-use Rattle.rewriting.proofs.rk_probe_rewritten.Tie as tie
+use Rattle.oracle_rewrite.proofs.rk_probe_rewritten.Statement.{statement}
+use Rattle.oracle_rewrite.proofs.rk_probe_rewritten.Tie as tie
 
 returns : tie.Need-returns
 unfolding readingOf countAfter bytesAfter

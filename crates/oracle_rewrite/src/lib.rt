@@ -2,10 +2,10 @@
 // writer alone.
 ghost use mathlib.Core.Path.{_≡_};
 ghost use Rattle.script.specs.Field.{readOf};
-ghost use Rattle.reading.specs.Reading.{onward, readingOf};
+ghost use Rattle.script_reading.specs.Reading.{onward, readingOf};
 ghost use Rattle.writer_laws.specs.Events.{events};
 ghost use Rattle.writer_laws.specs.InARow.{countAfter, bytesAfter};
-ghost use Rattle.rewriting.specs.Rewritten.{fieldIn, takenBy};
+ghost use Rattle.oracle_rewrite.specs.Rewritten.{fieldIn, takenBy};
 use script::Read;
 
 struct Rewritten {

@@ -3,8 +3,8 @@ use mathlib.Core.Path.{refl, ap}
 use borrow.Author.Needs.{needs}
 use Rattle.writer.specs.declared.Written.{Written}
 use Rattle.writer_laws.specs.InARow.{countAfter, bytesAfter}
-use Rattle.rewriting.proofs.rewrite_field.Statement.{statement}
-use Rattle.rewriting.proofs.rewrite_field.Tie as tie
+use Rattle.oracle_rewrite.proofs.rewrite_field.Statement.{statement}
+use Rattle.oracle_rewrite.proofs.rewrite_field.Tie as tie
 
 read-field-requires : tie.Need-read-field-requires
 read-field-requires c κs = search needs

@@ -7,9 +7,9 @@ use lib.ListN.{length, drop}
 use lib.Dec.{leb}
 use borrow.Author.Tests.{leb-true}
 use Rattle.lists.specs.Pick.{by-case}
-use Rattle.reading.specs.Reading.{ended, readingOf}
-use Rattle.reading.proofs.Steps.{Reads, onward-reads}
-use Rattle.reading.proofs.Places.{ownAll, three-each, within, stops-at, ends-at, own-and-rest, bad-not-ended}
+use Rattle.script_reading.specs.Reading.{ended, readingOf}
+use Rattle.script_reading.proofs.Steps.{Reads, onward-reads}
+use Rattle.script_reading.proofs.Places.{ownAll, three-each, within, stops-at, ends-at, own-and-rest, bad-not-ended}
 
 -- the fields' own bytes in order, and then the rest from where the reader stopped, are the script
 pub script-and-rest : (s : List ℕ) → ownAll s (readingOf s .fields) ++ drop (readingOf s .stop) s ≡ s

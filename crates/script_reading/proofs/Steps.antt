@@ -11,7 +11,7 @@ use Rattle.script.specs.declared.Read.{Read}
 use Rattle.script.specs.declared.Read.the-variants as R
 use Rattle.script.specs.Field.{readOf}
 use Rattle.script.proofs.Taken as T
-use Rattle.reading.specs.Reading.{Reading, placed, stopped, inFront, ended, bad, afterRead, readFrom, onward}
+use Rattle.script_reading.specs.Reading.{Reading, placed, stopped, inFront, ended, bad, afterRead, readFrom, onward}
 
 pub data Reads : ℕ → ℕ → List ℕ → Reading → Type 0 where
   field : {n at : ℕ} {s : List ℕ} {f : Field} {k : ℕ} {r : Reading} → readOf s (eqb n 1) ≡ R.Field f k → 3 ≤ k → k ≤ length s

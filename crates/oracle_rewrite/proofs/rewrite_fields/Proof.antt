@@ -5,9 +5,9 @@ use native.Mathlib.Omega.{arith}
 use borrow.Author.Needs.{needs}
 use lib.ListN.{length}
 use Rattle.script.proofs.Part.{rest}
-use Rattle.rewriting.proofs.Onward.{Left, from-first, stop, go-on, taken-left, bytes-length}
-use Rattle.rewriting.proofs.rewrite_fields.Statement.{statement}
-use Rattle.rewriting.proofs.rewrite_fields.Tie as tie
+use Rattle.oracle_rewrite.proofs.Onward.{Left, from-first, stop, go-on, taken-left, bytes-length}
+use Rattle.oracle_rewrite.proofs.rewrite_fields.Statement.{statement}
+use Rattle.oracle_rewrite.proofs.rewrite_fields.Tie as tie
 
 abbrev Inv-loop : tie.InvT-loop
 Inv-loop script out₀ n₀ at₀ w₀ out n at w =

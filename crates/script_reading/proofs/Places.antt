@@ -9,9 +9,9 @@ use lib.Dec.{eqb}
 use Rattle.refusals.specs.declared.Refusal.{Refusal}
 use Rattle.script.specs.declared.Read.the-variants as R
 use Rattle.script.specs.Field.{readOf}
-use Rattle.reading.specs.Reading.{Reading, Placed, ended, bad}
-use Rattle.reading.proofs.Steps.{Reads, field, wrong, end}
-use Rattle.reading.proofs.Whole.{end-is-empty}
+use Rattle.script_reading.specs.Reading.{Reading, Placed, ended, bad}
+use Rattle.script_reading.proofs.Steps.{Reads, field, wrong, end}
+use Rattle.script_reading.proofs.Whole.{end-is-empty}
 
 -- how many bytes fields take together
 abbrev pub sizes : List Placed → ℕ
