@@ -12,7 +12,7 @@ use Rattle.fields.specs.declared.Kind.{Kind}
 use Rattle.fields.specs.declared.Kind.the-variants as K
 use Rattle.writer.specs.Encoded.{encoded, configBytes}
 use Rattle.writer_laws.specs.Events.{ConfigNans, Nans, Byte}
-use Rattle.writer_laws.proofs.Spelled.{then, two, four, eight, held, single-again, double-again, flag-again, shape-again, direction-again}
+use Rattle.writer_laws.proofs.Spelled.{behind, bytes16-again, bytes32-again, bytes64-again, held-again, single-again, double-again, flag-again, shape-again, direction-again}
 
 -- the number of each kind's tag
 abbrev pub tagOf : Kind → ℕ
@@ -55,18 +55,18 @@ module _ (v : List ℕ) (bytes : Every Byte v) where
   config-again : 37 ≤ length v → Lawful v → ConfigNans v → configBytes (configOf v) ≡ take 37 v
   unfolding configBytes
   config-again h l c =
-      then v bytes 1 36 0 (flag-again v bytes 0 (omega arith) (l .enabled))
-      (then v bytes 1 35 1 (shape-again v bytes 1 (omega arith) (l .shape))
-      (then v bytes 1 34 2 (direction-again v bytes 2 (omega arith) (l .direction))
-      (then v bytes 4 30 3 (single-again v bytes 3 (omega arith) (c .rate))
-      (then v bytes 4 26 7 (single-again v bytes 7 (omega arith) (c .size))
-      (then v bytes 4 22 11 (single-again v bytes 11 (omega arith) (c .phase))
-      (then v bytes 1 21 15 (flag-again v bytes 15 (omega arith) (l .scheduled))
-      (then v bytes 1 20 16 (flag-again v bytes 16 (omega arith) (l .sync))
-      (then v bytes 4 16 17 (held v bytes 17 (omega arith))
-      (then v bytes 4 12 21 (held v bytes 21 (omega arith))
-      (then v bytes 4 8 25 (single-again v bytes 25 (omega arith) (c .rolloff))
-      (then v bytes 4 4 29 (single-again v bytes 29 (omega arith) (c .attack)) (single-again v bytes 33 (omega arith) (c .release)))))))))))))
+      behind v bytes 1 36 0 (flag-again v bytes 0 (omega arith) (l .enabled))
+      (behind v bytes 1 35 1 (shape-again v bytes 1 (omega arith) (l .shape))
+      (behind v bytes 1 34 2 (direction-again v bytes 2 (omega arith) (l .direction))
+      (behind v bytes 4 30 3 (single-again v bytes 3 (omega arith) (c .rate))
+      (behind v bytes 4 26 7 (single-again v bytes 7 (omega arith) (c .size))
+      (behind v bytes 4 22 11 (single-again v bytes 11 (omega arith) (c .phase))
+      (behind v bytes 1 21 15 (flag-again v bytes 15 (omega arith) (l .scheduled))
+      (behind v bytes 1 20 16 (flag-again v bytes 16 (omega arith) (l .sync))
+      (behind v bytes 4 16 17 (held-again v bytes 17 (omega arith))
+      (behind v bytes 4 12 21 (held-again v bytes 21 (omega arith))
+      (behind v bytes 4 8 25 (single-again v bytes 25 (omega arith) (c .rolloff))
+      (behind v bytes 4 4 29 (single-again v bytes 29 (omega arith) (c .attack)) (single-again v bytes 33 (omega arith) (c .release)))))))))))))
 
   -- ---- an event
   headed : (tag n : ℕ) {w u : List ℕ} → w ≡ u → tag ∷ 0 ∷ n ∷ w ≡ tag ∷ 0 ∷ n ∷ u
@@ -80,15 +80,15 @@ module _ (v : List ℕ) (bytes : Every Byte v) where
   event-again K.Configure u h l c = headed 2 37 (config-again h (lawful-parts v l) c)
   event-again K.Source u h l c =
       headed 3 11
-      (then v bytes 2 9 0 (two v bytes 0 (omega arith))
-      (then v bytes 4 5 2 (single-again v bytes 2 (omega arith) (c .0)) (then v bytes 4 1 6 (single-again v bytes 6 (omega arith) (c .1)) (flag-again v bytes 10 h l))))
-  event-again K.Retire u h l c = headed 4 2 (two v bytes 0 h)
-  event-again K.Release u h l c = headed 5 2 (two v bytes 0 h)
-  event-again K.Trigger u h l c = headed 6 2 (two v bytes 0 h)
+      (behind v bytes 2 9 0 (bytes16-again v bytes 0 (omega arith))
+      (behind v bytes 4 5 2 (single-again v bytes 2 (omega arith) (c .0)) (behind v bytes 4 1 6 (single-again v bytes 6 (omega arith) (c .1)) (flag-again v bytes 10 h l))))
+  event-again K.Retire u h l c = headed 4 2 (bytes16-again v bytes 0 h)
+  event-again K.Release u h l c = headed 5 2 (bytes16-again v bytes 0 h)
+  event-again K.Trigger u h l c = headed 6 2 (bytes16-again v bytes 0 h)
   event-again K.Seek u h l c = headed 7 8 (double-again v bytes 0 h c)
-  event-again K.Advance u h l c = headed 8 4 (four v bytes 0 h)
-  event-again K.Frame u h l c = headed 9 8 (then v bytes 4 4 0 (single-again v bytes 0 (omega arith) (c .0)) (single-again v bytes 4 h (c .1)))
+  event-again K.Advance u h l c = headed 8 4 (bytes32-again v bytes 0 h)
+  event-again K.Frame u h l c = headed 9 8 (behind v bytes 4 4 0 (single-again v bytes 0 (omega arith) (c .0)) (single-again v bytes 4 h (c .1)))
   event-again K.NoteInput u h l c = headed 10 1 (flag-again v bytes 0 h l)
   event-again K.Reset u h l c = refl
   event-again K.Reserve u h l c = refl
-  event-again K.ReservedTrigger u h l c = headed 13 10 (then v bytes 2 8 0 (two v bytes 0 (omega arith)) (eight v bytes 2 h))
+  event-again K.ReservedTrigger u h l c = headed 13 10 (behind v bytes 2 8 0 (bytes16-again v bytes 0 (omega arith)) (bytes64-again v bytes 2 h))
