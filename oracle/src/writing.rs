@@ -1,4 +1,4 @@
-//! The port's writer held against the encoder: single events, lists of them that are read back, and
+//! The port's writer held against the encoder: single events and lists of them, both read back, and
 //! every room and count about an event's size.
 use crate::compare::Sum;
 use crate::draws::Draws;
@@ -23,6 +23,9 @@ const BEHIND: usize = 50;
 
 /// How many bytes the rate takes in front of a script.
 const RATE_SIZE: usize = 7;
+
+/// How many bytes a configure takes, the longest event.
+const LONGEST: usize = 40;
 
 /// One buffer for the port and one for the encoder, which begin alike, and the count behind which both
 /// write. So many bytes of them are lent, and more stand behind.
@@ -69,23 +72,27 @@ impl Lent {
 
 pub fn compare<W: Write>(base: u64, sum: &mut Sum<W>) -> io::Result<()> {
     let mut single = Part::new("events written by rk_write_NAME".into(), WRITTEN);
+    let mut back = Part::new(
+        "events written and read back by rk_probe_rewritten".into(),
+        WRITTEN && port::REWRITTEN,
+    );
     let mut lists = Part::new(
         "lists of events, written and read by rk_probe_rewritten".into(),
         WRITTEN && port::REWRITTEN,
     );
     let mut rooms = Part::new("rooms and counts of rk_write_NAME".into(), WRITTEN);
     if WRITTEN {
-        compare_events(base, &mut single, &mut lists);
+        compare_events(base, &mut single, &mut back, &mut lists);
         compare_rooms(base, &mut rooms);
     }
-    [single, lists, rooms]
+    [single, back, lists, rooms]
         .iter()
         .try_for_each(|part| sum.counted(part))
 }
 
-/// Each event by itself, and then behind others of a list: it begins with a rate, has no other, and goes
-/// on until an event doesn't fit.
-fn compare_events(base: u64, single: &mut Part, lists: &mut Part) {
+/// Each event by itself; as a script of its own, behind a rate; and behind others of a list: it begins
+/// with a rate, has no other, and goes on until an event doesn't fit.
+fn compare_events(base: u64, single: &mut Part, back: &mut Part, lists: &mut Part) {
     let mut events = Events::new(base, "events");
     let (mut lent, mut list) = (Lent::new(), Lent::new());
     let (mut open, mut agree) = (false, true);
@@ -100,6 +107,10 @@ fn compare_events(base: u64, single: &mut Part, lists: &mut Part) {
         single.add(case, want == got && lent.same());
 
         let rate = matches!(field, Field::Rate(_));
+        if port::REWRITTEN {
+            let case = format_args!("{} {words:x?}, read back", writer.name);
+            back.add(case, alone(&mut lent, rate, writer, &words));
+        }
         if rate == open {
             continue;
         }
@@ -119,6 +130,14 @@ fn compare_events(base: u64, single: &mut Part, lists: &mut Part) {
             lists.add(case, agree && list.same() && read_back(&list));
         }
     }
+}
+
+/// Whether the event, behind a rate where it is none itself, is written as the encoder says and read back.
+fn alone(lent: &mut Lent, rate: bool, writer: &Writer, words: &[u64]) -> bool {
+    lent.begin(RATE_SIZE + LONGEST, 0, 0);
+    // The first row is the rate.
+    let first = rate || lent.write(&WRITERS[0], &[0]) == (0, 0);
+    first && lent.write(writer, words) == (0, 0) && lent.same() && read_back(lent)
 }
 
 /// A room and a count for an event of so many bytes: mostly it fits, at times to the last byte.

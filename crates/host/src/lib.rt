@@ -1,5 +1,5 @@
-// What a host in Rust or C may call: the elementary functions on numbers, a script on lent bytes, and
-// the writer of events.
+// What a host may call: the elementary functions on numbers, a script on lent bytes, and the writer of
+// events.
 ghost use Rattle.power64.specs.Exp64 as Exp64;
 ghost use Rattle.elementary.specs.Log2.{log2Of};
 ghost use Rattle.powers.specs.Power as Power;

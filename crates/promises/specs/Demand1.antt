@@ -1,4 +1,4 @@
--- DEMAND 1, as it is promised: for each call the tests of the scope in their order, each with the number that it gives, and what a refusal leaves.
+-- DEMAND 1, as it is promised: for each call the tests of the scope, or of its order, one after the other, each with the number that it gives, and what a refusal leaves.
 use Prim.Native.Nat.{ℕ, _+_, _-_, _/_, _^_}
 use mathlib.Core.Path.{_≡_}
 use mathlib.Core.Logic.{_↔_}

@@ -1,8 +1,9 @@
 -- ORDER 2, as it is promised: what was written is read back, and what was read is written back.
 use Prim.Native.Nat.{ℕ, _+_, _≤_}
 use mathlib.Core.Path.{_≡_}
-use mathlib.Core.List.{List}
+use mathlib.Core.List.{List, [], _∷_}
 use lib.ListN.{length}
+use lib.Ieee.{nan}
 use Rattle.lists.specs.Every.{Every}
 use Rattle.fields.specs.declared.Field.{Field}
 use Rattle.script_reading.specs.Reading.{readingOf, ended}
@@ -10,6 +11,7 @@ use Rattle.settings.specs.declared.Config.{Config}
 use Rattle.state.specs.declared.Engine.{Engine}
 use Rattle.changes.specs.Changes.{configuredOf}
 use Rattle.fields.specs.declared.Field.the-variants as F
+use Rattle.big_endian.specs.Bytes.{single, double}
 use Rattle.writer.specs.Encoded.{encoded, encodedAll}
 use Rattle.text.specs.Put.{splice}
 use Rattle.writer_laws.specs.InARow.{countAfter, bytesAfter}
@@ -26,6 +28,9 @@ pub record RoundTrip : Type 0 where
   -- a script that is read to its end and has no other NaN pattern is written back; its rate need not be lawful
   pub written-back : (s : List ℕ) → Every Byte s → readingOf s .verdict ≡ ended → Every (PlainNans s) (readingOf s .fields)
       → encodedAll (events (readingOf s)) ≡ s
+  -- every NaN is written as 7FC00000; the float of a seek, the one of eight bytes, as 7FF8000000000000
+  pub nan-written : single nan ≡ 0x7f ∷ 0xc0 ∷ 0 ∷ 0 ∷ []
+  pub nan-of-a-seek : double nan ≡ 0x7f ∷ 0xf8 ∷ 0 ∷ 0 ∷ 0 ∷ 0 ∷ 0 ∷ 0 ∷ []
   -- settings that the form cannot hold are written as those that it can, and the engine answers both alike
   pub wide-written : (c : Config) → encoded (F.Configure (heldConfig c)) ≡ encoded (F.Configure c)
   pub wide-alike : (e : Engine) (c : Config) → configuredOf e (heldConfig c) ≡ configuredOf e c

@@ -1,7 +1,7 @@
 -- A field that was read, written again, is its bytes: the tag, the length, and the value piece by piece.
 use Prim.Native.Nat.{ℕ, _≤_}
-use mathlib.Core.Path.{_≡_, refl, ap}
-use mathlib.Core.Bool.{Bool, true, false, _&&_}
+use mathlib.Core.Path.{_≡_, refl, sym, ap}
+use mathlib.Core.Bool.{Bool, true, false, _&&_, true≢false}
 use mathlib.Core.List.{List, _∷_}
 use native.Mathlib.Omega.{arith}
 use lib.ListN.{length, take}
@@ -34,7 +34,7 @@ tagOf K.ReservedTrigger = 13
 -- ---- settings
 both : (a b : Bool) → (a && b) ≡ true → (a ≡ true) × (b ≡ true)
 both true b e = (refl, e)
-both false b e = let z : _≡_ {A = ℕ} 0 1 = cc in absurd (omega arith)
+both false b e = absurd (true≢false (sym e))
 
 pub record Lawful (v : List ℕ) : Type 0 where
   pub enabled : upTo v 0 1 ≡ true

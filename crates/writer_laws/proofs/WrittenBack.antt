@@ -1,19 +1,19 @@
 -- A script that was read to its end, its events written again, is the script.
 use Prim.Native.Nat.{ℕ, zero, suc, _+_, _≤_, _<_}
 use mathlib.Core.Path.{_≡_, refl, sym, ap, subst, _∙_}
-use mathlib.Core.Bool.{Bool, true, false}
+use mathlib.Core.Bool.{Bool, false, true≢false}
 use mathlib.Core.List.{List, [], _∷_, _++_}
 use native.Mathlib.Omega.{arith}
 use lib.Dec.{eqb, ltb, leb, eqb→eq}
 use lib.ListN.{length, getD, take, drop, length-drop, take-append-drop}
 use lib.Seq.{drop-cons, drop-drop}
-use borrow.Author.Tests.{eqb-false, ltb-false}
+use lib.Ieee.Bits.{is-true}
+use borrow.Author.Tests.{eqb-false, ltb-true, ltb-false}
 use Rattle.lists.specs.All.{all-at}
 use Rattle.lists.specs.Every.{Every, every-getD}
 use Rattle.lists.specs.Pick.{by-case}
 use Rattle.fields.specs.Table.{kindOf, lengthOf}
 use Rattle.fields.specs.declared.Field.{Field}
-use Rattle.fields.specs.declared.Kind.{Kind}
 use Rattle.fields.specs.declared.Kind.the-variants as K
 use Rattle.script.specs.Field.{unknown}
 use Rattle.script_reading.specs.Reading.{Reading, ended, readingOf}
@@ -28,16 +28,13 @@ use Rattle.writer_laws.proofs.Pieces.{tagOf, event-again}
 abbrev tag-test : ℕ → Bool
 tag-test t = eqb (tagOf (kindOf t)) t
 
-not-both : {X : Type 0} → true ≡ false → X
-not-both e = let z : _≡_ {A = ℕ} 0 1 = cc in absurd (omega arith)
-
 known-tag : (t : ℕ) → unknown t ≡ false → (0 < t) × (t < 14)
 unfolding unknown
 known-tag t e =
     by-case (eqb t 0)
-    (λ y. not-both (rw y at e))
+    (λ y. absurd (true≢false (rw y at e)))
     (λ y. by-case (ltb 13 t)
-    (λ z. not-both (rw (y, z) at e))
+    (λ z. absurd (true≢false (rw (y, z) at e)))
     (λ z. let a = eqb-false t 0 y in let b = ltb-false 13 t z in (omega arith, omega arith)))
 
 tag-again : (t : ℕ) → t < 14 → tagOf (kindOf t) ≡ t
@@ -46,24 +43,15 @@ tag-again t h = eqb→eq (tagOf (kindOf t)) t (all-at tag-test 14 tt t h)
 known-kind : (t : ℕ) → unknown t ≡ false → kindOf t ≡ K.Unknown → ⊥
 known-kind t e u = let z : tagOf (kindOf t) ≡ 0 = ap tagOf u in omega (arith, known-tag t e .0, tag-again t (known-tag t e .1))
 
-short : (k : Kind) → lengthOf k < 256
-short K.Unknown = omega arith
-short K.Rate = omega arith
-short K.Configure = omega arith
-short K.Source = omega arith
-short K.Retire = omega arith
-short K.Release = omega arith
-short K.Trigger = omega arith
-short K.Seek = omega arith
-short K.Advance = omega arith
-short K.Frame = omega arith
-short K.NoteInput = omega arith
-short K.Reset = omega arith
-short K.Reserve = omega arith
-short K.ReservedTrigger = omega arith
+-- every length is one byte's
+abbrev length-test : ℕ → Bool
+length-test t = ltb (lengthOf (kindOf t)) 256
+
+short : (t : ℕ) → t < 14 → lengthOf (kindOf t) < 256
+short t h = ltb-true _ _ (is-true _ (all-at length-test 14 tt t h))
 
 -- ---- bytes
-pub every-drop : {A : Type 0} (P : A → Type 0) (n : ℕ) (l : List A) → Every P l → Every P (drop n l)
+every-drop : {A : Type 0} (P : A → Type 0) (n : ℕ) (l : List A) → Every P l → Every P (drop n l)
 every-drop P zero l a = a
 every-drop P (suc n) [] a = a
 every-drop P (suc n) (x ∷ l) a = every-drop P n l (a .1)
@@ -74,10 +62,10 @@ three s h = drop-cons s 0 0 (omega arith) ∙ ap (λ (l : List ℕ). getD s 0 0 
 -- ---- a field
 module _ (s : List ℕ) (bytes : Every Byte s) (first : Bool) {f : Field} {k : ℕ} (w : Whole s first f k) (c : Nans f (drop 3 s)) where
   high : getD s 1 0 ≡ 0
-  high = let e = w .said in omega (arith, short (kindAt s), every-getD Byte s 2 0 (omega arith) bytes)
+  high = let e = w .said in omega (arith, short (getD s 0 0) (known-tag (getD s 0 0) (w .known) .1), every-getD Byte s 2 0 (omega arith) bytes)
 
   low : getD s 2 0 ≡ lengthOf (kindAt s)
-  low = let e = w .said in omega (arith, short (kindAt s), every-getD Byte s 2 0 (omega arith) bytes)
+  low = let e = w .said in omega (arith, short (getD s 0 0) (known-tag (getD s 0 0) (w .known) .1), every-getD Byte s 2 0 (omega arith) bytes)
 
   again : encoded f ≡ getD s 0 0 ∷ getD s 1 0 ∷ getD s 2 0 ∷ take (lengthOf (kindAt s)) (drop 3 s)
   again =
