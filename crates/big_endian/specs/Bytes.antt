@@ -1,7 +1,8 @@
--- Numbers as bytes, big-endian, by halves as the reader puts them together; floats by their bits, every NaN by one pattern. Definitions only.
+-- Numbers as bytes, big-endian, by halves as the reader puts them together; floats by their bits, every NaN by one pattern; and the tagged form. Definitions only.
 use Prim.Native.Nat.{ℕ, _/_, _%_}
 use mathlib.Core.Bool.{Bool, true, false}
 use mathlib.Core.List.{List, [], _∷_, _++_}
+use lib.ListN.{length}
 use lib.Ieee.{Float, toBits, binary32, binary64}
 
 abbrev pub bytes16 : ℕ → List ℕ
@@ -27,3 +28,7 @@ flagOf true = 1
 
 abbrev pub flag : Bool → List ℕ
 flag b = flagOf b ∷ []
+
+-- the tagged form: the tag, the length of the value, the value
+abbrev pub tagged : ℕ → List ℕ → List ℕ
+tagged tag v = tag ∷ bytes16 (length v) ++ v

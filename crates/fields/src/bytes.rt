@@ -1,7 +1,5 @@
-// Numbers in the bytes of a field, big-endian. A byte past the end counts as 0, so that no place asks
-// for a length.
+// Numbers in bytes, big-endian. A byte past the end counts as 0, so that no place asks for a length.
 ghost use mathlib.Core.Path.{_≡_};
-ghost use Prim.Native.Nat.{_<_};
 ghost use lib.ListN.{getD};
 ghost use Rattle.fields.specs.Bytes.{be16, be32, be64, f32At, f64At, flagAt, upTo};
 
@@ -12,35 +10,39 @@ pub fn byte(s: &[u8], i: usize) -> u8
 }
 
 pub fn be16_at(s: &[u8], i: usize) -> u16
-    requires { ⌜ i < 64 ⌝ }
     ensures { λ r. ⌜ r ≡ be16 (now (s .entry)) i ⌝ }
 {
-    (byte(s, i) as u16) * 256 + (byte(s, i + 1) as u16)
+    if i < s.len() {
+        return (byte(s, i) as u16) * 256 + (byte(s, i + 1) as u16);
+    }
+    0
 }
 
 pub fn be32_at(s: &[u8], i: usize) -> u32
-    requires { ⌜ i < 60 ⌝ }
     ensures { λ r. ⌜ r ≡ be32 (now (s .entry)) i ⌝ }
 {
-    (be16_at(s, i) as u32) * 65536 + (be16_at(s, i + 2) as u32)
+    if i < s.len() {
+        return (be16_at(s, i) as u32) * 65536 + (be16_at(s, i + 2) as u32);
+    }
+    0
 }
 
 pub fn be64_at(s: &[u8], i: usize) -> u64
-    requires { ⌜ i < 50 ⌝ }
     ensures { λ r. ⌜ r ≡ be64 (now (s .entry)) i ⌝ }
 {
-    (be32_at(s, i) as u64) * 4294967296 + (be32_at(s, i + 4) as u64)
+    if i < s.len() {
+        return (be32_at(s, i) as u64) * 4294967296 + (be32_at(s, i + 4) as u64);
+    }
+    0
 }
 
 pub fn f32_at(s: &[u8], i: usize) -> f32
-    requires { ⌜ i < 60 ⌝ }
     ensures { λ r. ⌜ r ≡ f32At (now (s .entry)) i ⌝ }
 {
     floats::of_bits32(be32_at(s, i))
 }
 
 pub fn f64_at(s: &[u8], i: usize) -> f64
-    requires { ⌜ i < 50 ⌝ }
     ensures { λ r. ⌜ r ≡ f64At (now (s .entry)) i ⌝ }
 {
     floats::of_bits64(be64_at(s, i))

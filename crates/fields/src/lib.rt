@@ -4,6 +4,9 @@ use settings::Config;
 mod bytes;
 mod values;
 
+pub use bytes::be16_at;
+pub use bytes::be64_at;
+pub use bytes::byte;
 pub use values::field_of;
 pub use values::is_lawful;
 

@@ -4,7 +4,7 @@ use lib.Dec.{lit<}
 use Rattle.refusals.specs.declared.Answer.{Answer}
 use Rattle.refusals.specs.declared.Answer.the-variants.{Taken, Refused}
 use Rattle.refusals.specs.declared.Refusal.{Refusal}
-use Rattle.refusals.specs.declared.Refusal.the-variants.{Rate, Slot, Size, Elapsed, Lengths, Logs, Seconds, Tag, Cut, Value, Place, Script, Room}
+use Rattle.refusals.specs.declared.Refusal.the-variants.{Rate, Slot, Size, Elapsed, Lengths, Logs, Seconds, Tag, Cut, Value, Place, Script, Room, Attenuation, Record}
 use Rattle.refusals.specs.Numbers.{numberOf, answerOf}
 
 number-small : (r : Refusal) → numberOf r < 2 ^ 32
@@ -21,6 +21,8 @@ number-small Value = lit< tt
 number-small Place = lit< tt
 number-small Script = lit< tt
 number-small Room = lit< tt
+number-small Attenuation = lit< tt
+number-small Record = lit< tt
 
 pub answer-small : (a : Answer) → answerOf a < 2 ^ 32
 answer-small Taken = lit< tt

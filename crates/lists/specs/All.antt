@@ -1,5 +1,5 @@
 -- A test that passes at each number below a bound.
-use mathlib.Core.Path.{subst⁻¹}
+use mathlib.Core.Path.{_≡_, refl, subst⁻¹}
 use mathlib.Core.Bool.{Bool, true, _&&_}
 use mathlib.Core.Logic.{inl, inr}
 use Prim.Native.Nat.{ℕ, zero, suc, _<_}
@@ -22,3 +22,12 @@ all-at f (suc n) t k h = elim (eq-or-lt-of-le (le-of-suc-le-suc h)) [
 pub all-of : (f : ℕ → Bool) (n : ℕ) → ((k : ℕ) → k < n → T (f k)) → T (all f n)
 all-of f zero h = tt
 all-of f (suc n) h = and-i (all f n) (f n) (all-of f n (λ k l. h k (omega arith))) (h n (le-refl (suc n)))
+
+-- a test that agrees with another at each of them passes where that does
+pub all-same : (f g : ℕ → Bool) (n : ℕ) → ((k : ℕ) → k < n → f k ≡ g k) → all f n ≡ all g n
+all-same f g zero h = refl
+all-same f g (suc n) h = rw (all-same f g n (λ k l. h k (omega arith)), h n (le-refl (suc n)))
+
+pub all-true : (f : ℕ → Bool) (n : ℕ) → ((k : ℕ) → k < n → f k ≡ true) → all f n ≡ true
+all-true f zero h = refl
+all-true f (suc n) h = rw (all-true f n (λ k l. h k (omega arith)), h n (le-refl (suc n)))

@@ -1,7 +1,7 @@
 -- The numbers of the refusals, 01's and behind them 02's, and of an answer. Definitions only.
 use Prim.Native.Nat.{ℕ}
 use Rattle.refusals.specs.declared.Refusal.{Refusal}
-use Rattle.refusals.specs.declared.Refusal.the-variants.{Rate, Slot, Size, Elapsed, Lengths, Logs, Seconds, Tag, Cut, Value, Place, Script, Room}
+use Rattle.refusals.specs.declared.Refusal.the-variants.{Rate, Slot, Size, Elapsed, Lengths, Logs, Seconds, Tag, Cut, Value, Place, Script, Room, Attenuation, Record}
 use Rattle.refusals.specs.declared.Answer.{Answer}
 use Rattle.refusals.specs.declared.Answer.the-variants.{Taken, Refused}
 
@@ -32,6 +32,10 @@ numberOf Place = 11
 numberOf Script = 12
 -- 02, order 2: the lent buffer has too few free bytes
 numberOf Room = 13
+-- 02, order 5: the attenuation at some bin is a NaN
+numberOf Attenuation = 18
+-- 02, order 5: a bin count outside 1 to 8,193, or bytes that are no record of a mask file
+numberOf Record = 19
 
 abbrev pub answerOf : Answer → ℕ
 answerOf Taken = 0

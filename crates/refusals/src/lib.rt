@@ -16,6 +16,8 @@ pub enum Refusal {
     Place,
     Script,
     Room,
+    Attenuation,
+    Record,
 }
 
 pub enum Answer {
@@ -40,6 +42,8 @@ pub fn number(r: Refusal) -> u64
         Refusal::Place => 11,
         Refusal::Script => 12,
         Refusal::Room => 13,
+        Refusal::Attenuation => 18,
+        Refusal::Record => 19,
     }
 }
 

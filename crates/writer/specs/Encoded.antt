@@ -2,17 +2,12 @@
 use Prim.Native.Nat.{ℕ}
 use mathlib.Core.Bool.{cond}
 use mathlib.Core.List.{List, [], _∷_, _++_}
-use lib.ListN.{length}
 use lib.Dec.{leb}
 use Rattle.settings.specs.declared.Config.{Config}
 use Rattle.fields.specs.declared.Field.{Field}
 use Rattle.fields.specs.declared.Field.the-variants as F
-use Rattle.big_endian.specs.Bytes.{bytes16, bytes32, bytes64, single, double, flag}
+use Rattle.big_endian.specs.Bytes.{tagged, bytes16, bytes32, bytes64, single, double, flag}
 use Rattle.writer.specs.Kinds.{shapeByte, directionByte}
-
--- the tag, the length of the value, the value
-abbrev pub tagged : ℕ → List ℕ → List ℕ
-tagged tag v = tag ∷ bytes16 (length v) ++ v
 
 -- what the form cannot hold is written as the greatest number that it can
 unfoldable pub held32 : ℕ → ℕ

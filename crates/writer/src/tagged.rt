@@ -4,7 +4,7 @@ ghost use Prim.Native.Nat.{_+_, _<_};
 ghost use lib.Dec.{leb};
 ghost use lib.ListN.{length};
 ghost use Rattle.text.specs.Put.{bufferOf};
-ghost use Rattle.writer.specs.Encoded.{tagged};
+ghost use Rattle.big_endian.specs.Bytes.{tagged};
 ghost use Rattle.writer.specs.Written.{writtenOf};
 use crate::Written;
 use big_endian::bytes16;

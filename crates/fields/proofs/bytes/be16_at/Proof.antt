@@ -1,4 +1,5 @@
--- `be16_at` meets its contract: the callees' answers, put together.
+-- `be16_at` meets its contract: the callees' answers, put together; past the end it is 0.
+use Rattle.fields.proofs.Past.{past16}
 use borrow.Author.Needs.{needs}
 use Rattle.fields.proofs.bytes.be16_at.Statement.{statement}
 use Rattle.fields.proofs.bytes.be16_at.Tie as tie
@@ -27,6 +28,9 @@ add-result c = search needs
 returns : tie.Need-returns
 returns c = search needs
 
+returns-2 : tie.Need-returns-2
+returns-2 c = past16 (c .before .before .args .s .now) _ (c .if1 .left)
+
 pub be16-at-spec : {M : Type 1} → statement M
 be16-at-spec =
     tie.close
@@ -38,4 +42,5 @@ be16-at-spec =
     byte-requires-2
     cast-result-2
     add-result
-    returns)
+    returns
+    returns-2)

@@ -1,6 +1,5 @@
 -- `direction_at` meets its contract: the tests in order.
 use borrow.Author.Tests.{eq-eqb, ne-eqb}
-use mathlib.Core.Path.{_∙_, sym}
 use borrow.Author.Needs.{needs}
 use Rattle.fields.proofs.values.direction_at.Statement.{statement}
 use Rattle.fields.proofs.values.direction_at.Tie as tie

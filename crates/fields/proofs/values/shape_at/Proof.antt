@@ -1,6 +1,5 @@
 -- `shape_at` meets its contract: one test.
 use borrow.Author.Tests.{eq-eqb, ne-eqb}
-use mathlib.Core.Path.{_∙_, sym}
 use borrow.Author.Needs.{needs}
 use Rattle.fields.proofs.values.shape_at.Statement.{statement}
 use Rattle.fields.proofs.values.shape_at.Tie as tie

@@ -2,7 +2,7 @@
 use mathlib.Core.Path.{sym, _∙_}
 use native.Mathlib.Omega.{arith}
 use Rattle.text.proofs.Laws.{piece, seq}
-use Rattle.writer.specs.Encoded.{tagged}
+use Rattle.big_endian.specs.Bytes.{tagged}
 use Rattle.writer.proofs.Room.{no-room, with-room}
 use borrow.Author.Needs.{needs}
 use Rattle.writer.proofs.tagged.write_tagged.Statement.{statement}
