@@ -11,7 +11,7 @@ use windows::Frame;
 use windows::Window;
 
 // What a shut bin is brought to, in decibels.
-fn level(depth_db: f32, activity: f32) -> f32
+pub fn level(depth_db: f32, activity: f32) -> f32
     ensures { λ r. ⌜ r ≡ levelOf «depth_db» activity ⌝ }
 {
     -floats::clamp32(depth_db, 0.0, 60.0) * activity
@@ -64,7 +64,7 @@ fn shape(
 }
 
 // Nothing to attenuate.
-fn quiet(depth_db: f32, activity: f32) -> bool
+pub fn quiet(depth_db: f32, activity: f32) -> bool
     ensures { λ r. ⌜ r ≡ quietOf «depth_db» activity ⌝ }
 {
     if depth_db <= 0.0 {

@@ -2,3 +2,5 @@
 mod gain;
 
 pub use gain::gains;
+pub use gain::level;
+pub use gain::quiet;

@@ -1,0 +1,27 @@
+-- The record of bins that are opened so far, at a level: refusals 18 and 13, in this order. Definitions only.
+use Prim.Native.Nat.{ℕ, _+_}
+use mathlib.Core.List.{List}
+use lib.Dec.{leb}
+use lib.ListN.{length, getD}
+use lib.Ieee.{Float, nan}
+use Rattle.lists.specs.All.{all}
+use Rattle.lists.specs.Pick.{pick}
+use Rattle.lists.specs.Table.{table}
+use Rattle.text.specs.Put.{splice}
+use Rattle.refusals.specs.declared.Refusal.the-variants.{Room, Attenuation}
+use Rattle.mask_records.specs.declared.Written.{Written}
+use Rattle.mask_records.specs.declared.Written.the-variants.{Upto, Refused}
+use Rattle.mask_records.specs.Bytes.{recordOf}
+use Rattle.mask_records.specs.Entries.{attenuationOf, isNumber, entryFor}
+use Rattle.mask_records.specs.Placed.{sizeOf}
+
+unfoldable pub filledOf : Float → List Float → List ℕ
+filledOf level opened = table (length opened) (λ i. entryFor (attenuationOf level (getD opened i nan)))
+
+-- the answer, and then scratch and out afterwards
+unfoldable pub finishedOf : ℕ → Float → List Float → List Float → List ℕ → ℕ → Written × List Float × List ℕ
+finishedOf sample level opened scratch out at =
+    let n = length opened in
+    pick (all (λ i. isNumber (attenuationOf level (getD opened i nan))) n)
+    (pick (leb (at + sizeOf n) (length out)) (Upto (at + sizeOf n), opened, splice out at (recordOf sample (filledOf level opened))) (Refused Room, scratch, out))
+    (Refused Attenuation, scratch, out)

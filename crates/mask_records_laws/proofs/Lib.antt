@@ -1,0 +1,4 @@
+pub mod ReadBack
+pub mod Frames
+pub mod WriteBack
+pub mod Files

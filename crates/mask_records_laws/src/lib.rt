@@ -1,0 +1,1 @@
+// Laws of mask files, proved on their definitions: what is written is read back.
