@@ -22,9 +22,17 @@ isSilent (L.Refused n r) = false
 isSilent (L.Bad n r) = false
 isSilent (L.End n) = false
 
+abbrev pub isFrameless : Line → Bool
+isFrameless L.Nothing = true
+isFrameless (L.Frame n v) = false
+isFrameless (L.Refused n r) = true
+isFrameless (L.Bad n r) = true
+isFrameless (L.End n) = true
+
 abbrev pub passesBy : Until → Line → Bool
 passesBy U.Field line = false
 passesBy U.Line line = isSilent line
+passesBy U.Frame line = isFrameless line
 passesBy U.End line = true
 
 -- after a field that takes no byte nothing follows

@@ -3,7 +3,7 @@ ghost use mathlib.Core.Path.{_≡_};
 ghost use Prim.Native.Nat.{_-_};
 ghost use Rattle.turns.specs.Turns.{toldOf, turnOf};
 ghost use Rattle.turns.specs.Last.{lastTurn};
-ghost use Rattle.turns.specs.Reaching.{isSilent, goesOn, reachedAt, reachedOf};
+ghost use Rattle.turns.specs.Reaching.{isSilent, isFrameless, goesOn, reachedAt, reachedOf};
 ghost use Rattle.turns.specs.declared.Until.the-variants as Until;
 ghost use Rattle.turns.specs.Saying.{saysOf, saidOf};
 ghost use Rattle.turns.specs.Late.{countedOf};
@@ -23,10 +23,12 @@ pub struct Turn {
     pub taken: usize,
 }
 
-// How far turns go: through one field, up to the next line that is printed, or to the end of the run.
+// How far turns go: through one field, up to the next line that is printed, up to the next accepted
+// frame, or to the end of the run.
 pub enum Until {
     Field,
     Line,
+    Frame,
     End,
 }
 
@@ -92,6 +94,19 @@ fn silent(line: Line) -> bool
     }
 }
 
+// Whether a line is another than an accepted frame's.
+fn frameless(line: Line) -> bool
+    ensures { λ r. ⌜ r ≡ isFrameless line ⌝ }
+{
+    match line {
+        Line::Nothing => true,
+        Line::Frame(_, _) => false,
+        Line::Refused(_, _) => true,
+        Line::Bad(_, _) => true,
+        Line::End(_) => true,
+    }
+}
+
 // After a field that takes no byte nothing follows.
 fn goes_on(until: Until, line: Line, taken: usize) -> bool
     ensures { λ r. ⌜ r ≡ goesOn until line taken ⌝ }
@@ -102,6 +117,7 @@ fn goes_on(until: Until, line: Line, taken: usize) -> bool
     match until {
         Until::Field => false,
         Until::Line => silent(line),
+        Until::Frame => frameless(line),
         Until::End => true,
     }
 }
@@ -246,6 +262,14 @@ pub fn next_line(run: Run, n: u64, s: &[u8]) -> Reached
     ensures { λ r. ⌜ r ≡ reachedOf Until.Line run n (now (s .entry)) ⌝ }
 {
     take_turns(Until::Line, run, n, s)
+}
+
+// The first turn from field n on that has an accepted frame, or ends the run, and where its field
+// stands.
+pub fn next_frame(run: Run, n: u64, s: &[u8]) -> Reached
+    ensures { λ r. ⌜ r ≡ reachedOf Until.Frame run n (now (s .entry)) ⌝ }
+{
+    take_turns(Until::Frame, run, n, s)
 }
 
 // The turn that ends a script.

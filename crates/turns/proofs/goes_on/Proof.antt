@@ -24,6 +24,12 @@ silent-requires c κs = search needs
 enum-told-3 : tie.Need-enum-told-3
 enum-told-3 c = search needs
 
+frameless-requires : tie.Need-frameless-requires
+frameless-requires c κs = search needs
+
+enum-told-4 : tie.Need-enum-told-4
+enum-told-4 c = search needs
+
 returns-2 : tie.Need-returns-2
 unfolding goesOn
 returns-2 c = skipped _ _ _ _ (ne-eqb _ _ (c .before .before .if1 .left)) (sym (ap (λ (u : Until). passesBy u (c .before .before .before .args .line)) (c .enum-told .given .1)))
@@ -34,7 +40,11 @@ returns-3 c = skipped _ _ _ _ (ne-eqb _ _ (c .before .before .before .if1 .left)
 
 returns-4 : tie.Need-returns-4
 unfolding goesOn
-returns-4 c = skipped _ _ _ _ (ne-eqb _ _ (c .before .before .if1 .left)) (sym (ap (λ (u : Until). passesBy u (c .before .before .before .args .line)) (c .enum-told3 .given .1)))
+returns-4 c = skipped _ _ _ _ (ne-eqb _ _ (c .before .before .before .if1 .left)) (c .frameless .ensures ∙ sym (ap (λ (u : Until). passesBy u (c .before .before .before .before .args .line)) (c .before .enum-told3 .given .1)))
+
+returns-5 : tie.Need-returns-5
+unfolding goesOn
+returns-5 c = skipped _ _ _ _ (ne-eqb _ _ (c .before .before .if1 .left)) (sym (ap (λ (u : Until). passesBy u (c .before .before .before .args .line)) (c .enum-told4 .given .1)))
 
 pub goes-on-spec : {M : Type 1} → statement M
 goes-on-spec =
@@ -45,6 +55,9 @@ goes-on-spec =
     enum-told-2
     silent-requires
     enum-told-3
+    frameless-requires
+    enum-told-4
     returns-2
     returns-3
-    returns-4)
+    returns-4
+    returns-5)
