@@ -1,17 +1,18 @@
 -- Demand 1: every call refuses by the scope's numbers, exactly when the scope says, and a refusal leaves what it must.
-use Prim.Native.Nat.{ℕ, _+_, _-_, _/_, _^_}
+use Prim.Native.Nat.{ℕ, _+_, _-_, _*_, _/_, _^_}
 use mathlib.Core.Path.{_≡_, refl, sym, ap, _∙_}
 use mathlib.Core.Logic.{_↔_}
 use mathlib.Core.Bool.{Bool, true, false, cond, not, _&&_, _||_, true≢false}
 use mathlib.Core.List.{List, [], _∷_, _++_}
 use lib.Dec.{eqb, ltb, leb}
 use lib.ListN.{length, getD, drop}
-use lib.Ieee.{Float}
+use lib.Ieee.{Float, isNan}
+use Rattle.lists.specs.All.{all}
 use Rattle.lists.specs.Pick.{pick, picked, passed, either, by-case}
 use Rattle.refusals.specs.declared.Answer.{Answer}
 use Rattle.refusals.specs.declared.Answer.the-variants.{Taken, Refused}
 use Rattle.refusals.specs.declared.Refusal.{Refusal}
-use Rattle.refusals.specs.declared.Refusal.the-variants.{Rate, Slot, Size, Elapsed, Lengths, Logs, Tag, Cut, Value, Place, Script}
+use Rattle.refusals.specs.declared.Refusal.the-variants.{Rate, Slot, Size, Elapsed, Lengths, Logs, Tag, Cut, Value, Place, Script, Room, Attenuation, Record}
 use Rattle.refusals.specs.Numbers.{numberOf, answerOf}
 use Rattle.settings.specs.declared.Config.{Config}
 use Rattle.settings.specs.Settings.{checkedOf, lawfulRate}
@@ -32,6 +33,14 @@ use Rattle.frame.specs.Call.{takenOf, refusedOf, framedOf}
 use Rattle.bin_tables.specs.Bins as bins
 use Rattle.bin_tables.specs.Logs.{lawfulLogs}
 use Rattle.mask.specs.Gains.{gainsOf}
+use Rattle.decibels.specs.Entries.{isEntry}
+use Rattle.mask_records.specs.declared.Written.{Written}
+use Rattle.mask_records.specs.declared.Written.the-variants as W
+use Rattle.mask_records.specs.declared.Read as reader
+use Rattle.mask_records.specs.declared.Read.the-variants as M
+use Rattle.mask_records.specs.Entries.{attenuationAt}
+use Rattle.mask_records.specs.Written.{writtenOf}
+use Rattle.mask_records.specs.Found as records-in
 use Rattle.fields.specs.declared.Field.{Field}
 use Rattle.script.specs.declared.Read.the-variants as R
 use Rattle.fields.specs.Bytes.{be16}
@@ -41,7 +50,7 @@ use Rattle.ending.specs.declared.Ended.{Ended}
 use Rattle.ending.specs.Ended.{ranOf}
 use Rattle.entry.specs.Entry.{entryAnswer, ifTaken, entryBytes}
 use Rattle.promises.proofs.Writing.{listed-by, unlisted-by, written-by, unwritten-by}
-use Rattle.promises.specs.Demand1.{Row, firstOf, NoneHolds, Given, badSlot, readNumber, Kept, Demand1}
+use Rattle.promises.specs.Demand1.{Row, firstOf, NoneHolds, Given, badSlot, readNumber, Kept, Demand1, badRecord, recordNumber, foundNumber}
 
 -- ---- the first test that holds
 found : (rows : List Row) (k : ℕ) → (k ≡ 0 → ⊥) → firstOf rows ≡ k → Given rows k
@@ -153,6 +162,63 @@ module _ (f : Frame) (depth : Float) (logs scratch output : List Float) where
       masked (eqb (length output) (length scratch)) (eqb (length output) (length logs)) (lawfulLogs logs) _ scratch output
       (either (λ (x : Masked). x .0 ≡ Taken) _ _ _ refl (either (λ (x : Masked). x .0 ≡ Taken) _ _ _ refl refl))
 
+-- ---- records of mask files
+abbrev Recorded : Type 0
+Recorded = Written × List Float × List ℕ
+
+recorded : (a b c d e g : Bool) (p : ℕ) (x scratch : List Float) (y out : List ℕ)
+    → let got : Recorded =
+    pick a
+    (pick b
+    (pick c (W.Refused Record, scratch, out)
+    (pick d (W.Refused Record, scratch, out) (pick e (pick g (W.Upto p, x, y) (W.Refused Room, scratch, out)) (W.Refused Attenuation, scratch, out))))
+    (W.Refused Logs, scratch, out))
+    (W.Refused Lengths, scratch, out) in
+    (recordNumber (got .0) ≡ firstOf ((not a, 5) ∷ (not b, 6) ∷ (c || d, 19) ∷ (not e, 18) ∷ (not g, 13) ∷ []))
+    × ((recordNumber (got .0) ≡ 0 → ⊥) → (got .1 ≡ scratch) × (got .2 ≡ out))
+unfolding firstOf pick
+recorded false b c d e g p x scratch y out = (refl, λ n. (refl, refl))
+recorded true false c d e g p x scratch y out = (refl, λ n. (refl, refl))
+recorded true true true d e g p x scratch y out = (refl, λ n. (refl, refl))
+recorded true true false true e g p x scratch y out = (refl, λ n. (refl, refl))
+recorded true true false false false g p x scratch y out = (refl, λ n. (refl, refl))
+recorded true true false false true false p x scratch y out = (refl, λ n. (refl, refl))
+recorded true true false false true true p x scratch y out = (refl, λ n. absurd (n refl))
+
+module _ (sample : ℕ) (f : Frame) (depth : Float) (logs scratch : List Float) (out : List ℕ) (at : ℕ) where
+  record-written : (recordNumber (writtenOf sample f depth logs scratch out at .0)
+      ≡ firstOf
+      ((not (eqb (length scratch) (length logs)), 5)
+      ∷ (not (lawfulLogs logs), 6)
+      ∷ (ltb (length logs) 1 || ltb 8193 (length logs), 19)
+      ∷ (not (all (λ i. not (isNan (attenuationAt f depth logs i))) (length logs)), 18)
+      ∷ (not (leb (at + (16 + 2 * length logs)) (length out)), 13)
+      ∷ []))
+      × ((recordNumber (writtenOf sample f depth logs scratch out at .0) ≡ 0 → ⊥)
+      → (writtenOf sample f depth logs scratch out at .1 ≡ scratch) × (writtenOf sample f depth logs scratch out at .2 ≡ out))
+  unfolding writtenOf
+  record-written =
+      recorded (eqb (length scratch) (length logs)) (lawfulLogs logs) (ltb (length logs) 1) (ltb 8193 (length logs)) (all (λ i. not (isNan (attenuationAt f depth logs i))) (length logs)) (leb (at + (16 + 2 * length logs)) (length out)) _ _ scratch _ out
+
+abbrev Handed : Type 0
+Handed = reader.Read × List ℕ
+
+handed : (a b c d : Bool) (v n k : ℕ) (y lent : List ℕ)
+    → let got : Handed = pick a (M.End, lent) (pick b (pick c (pick d (M.Found v n k, y) (M.Refused Room, lent)) (M.Refused Record, lent)) (M.Refused Record, lent)) in
+    (foundNumber (got .0) ≡ firstOf ((a, 0) ∷ (not b || not c, 19) ∷ (not d, 13) ∷ [])) × ((foundNumber (got .0) ≡ 0 → ⊥) → got .1 ≡ lent)
+unfolding firstOf pick
+handed true b c d v n k y lent = (refl, λ u. refl)
+handed false false c d v n k y lent = (refl, λ u. refl)
+handed false true false d v n k y lent = (refl, λ u. refl)
+handed false true true false v n k y lent = (refl, λ u. refl)
+handed false true true true v n k y lent = (refl, λ u. absurd (u refl))
+
+module _ (s lent : List ℕ) where
+  record-read : (foundNumber (records-in.readOf s lent .0) ≡ firstOf ((eqb (length s) 0, 0) ∷ (badRecord s, 19) ∷ (not (leb (be16 s 11) (length lent)), 13) ∷ []))
+      × ((foundNumber (records-in.readOf s lent .0) ≡ 0 → ⊥) → records-in.readOf s lent .1 ≡ lent)
+  unfolding records-in.readOf records-in.headed
+  record-read = handed (eqb (length s) 0) (records-in.headed s) (all (λ i. isEntry (be16 s (16 + 2 * i))) (be16 s 11)) (leb (be16 s 11) (length lent)) _ _ _ _ lent
+
 -- ---- a field of a script
 field-read : (a first b c d f g h : Bool) (x : Field) (k : ℕ)
     → readNumber
@@ -214,6 +280,10 @@ demand1 =
       bin-table-leaves = λ rate size old. tabled (lawfulRate rate) (ltb size 1) (ltb 16384 size) (eqb (length old) (size / 2 + 1)) _ old .1;
       gains = λ f depth logs scratch output. passed-on f depth logs scratch output .0;
       gains-leave = λ f depth logs scratch output. passed-on f depth logs scratch output .1;
+      write-record = λ sample f depth logs scratch out at. record-written sample f depth logs scratch out at .0;
+      write-record-leaves = λ sample f depth logs scratch out at. record-written sample f depth logs scratch out at .1;
+      read-record = λ s lent. record-read s lent .0;
+      read-record-leaves = λ s lent. record-read s lent .1;
       field =
           λ s first.
           let k = kindOf (getD s 0 0) in

@@ -3,6 +3,7 @@ pub mod Demand3
 pub mod EveryRun
 pub mod Lives
 pub mod Marked
+pub mod MaskFiles
 pub mod Quiet
 pub mod RoundTrip
 pub mod Stories

@@ -1,13 +1,14 @@
 -- DEMAND 1, as it is promised: for each call the tests of the scope, or of its order, one after the other, each with the number that it gives, and what a refusal leaves.
-use Prim.Native.Nat.{ℕ, _+_, _-_, _/_, _^_}
+use Prim.Native.Nat.{ℕ, _+_, _-_, _*_, _/_, _^_}
 use mathlib.Core.Path.{_≡_}
 use mathlib.Core.Logic.{_↔_}
 use mathlib.Core.Bool.{Bool, true, false, not, _&&_, _||_}
 use mathlib.Core.List.{List, [], _∷_, _++_}
 use lib.Dec.{eqb, ltb, leb}
 use lib.ListN.{length, getD, drop}
-use lib.Ieee.{Float, le}
+use lib.Ieee.{Float, le, isNan}
 use lib.Ieee.Scale.{finite}
+use Rattle.lists.specs.All.{all}
 use Rattle.lists.specs.Pick.{pick}
 use Rattle.floats.specs.Names.{f32}
 use Rattle.refusals.specs.Numbers.{numberOf, answerOf}
@@ -27,6 +28,14 @@ use Rattle.frame.specs.Call.{framedOf}
 use Rattle.bin_tables.specs.Bins as bins
 use Rattle.bin_tables.specs.Logs.{lawfulLogs}
 use Rattle.mask.specs.Gains.{gainsOf}
+use Rattle.decibels.specs.Entries.{isEntry}
+use Rattle.mask_records.specs.declared.Written.{Written}
+use Rattle.mask_records.specs.declared.Written.the-variants as W
+use Rattle.mask_records.specs.declared.Read as reader
+use Rattle.mask_records.specs.declared.Read.the-variants as M
+use Rattle.mask_records.specs.Entries.{attenuationAt}
+use Rattle.mask_records.specs.Written as records
+use Rattle.mask_records.specs.Found as records-in
 use Rattle.script.specs.declared.Read.{Read}
 use Rattle.script.specs.declared.Read.the-variants as R
 use Rattle.fields.specs.Bytes.{be16}
@@ -72,6 +81,13 @@ badRate rate = not (finite rate && (le (f32 0x45fa0000) rate && le rate (f32 0x4
 abbrev pub badSlot : ℕ → Bool
 badSlot slot = not (ltb slot 256)
 
+-- 19: no tag 32 of ten bytes, a count outside 1 to 8,193, no tag 33 of two bytes a bin, bytes that end within it, or an entry that isn't in the table
+abbrev pub badRecord : List ℕ → Bool
+badRecord s =
+    let n = be16 s 11 in
+    not ((eqb (getD s 0 0) 32 && eqb (be16 s 1) 10) && ((leb 1 n && leb n 8193) && ((eqb (getD s 13 0) 33 && eqb (be16 s 14) (2 * n)) && leb (16 + 2 * n) (length s))))
+    || not (all (λ i. isEntry (be16 s (16 + 2 * i))) n)
+
 abbrev pub readNumber : Read → ℕ
 readNumber (R.Field f k) = 0
 readNumber (R.Bad r) = numberOf r
@@ -80,6 +96,15 @@ readNumber R.End = 0
 abbrev pub listedNumber : Listed → ℕ
 listedNumber (L.Count n) = 0
 listedNumber (L.Refused r) = numberOf r
+
+abbrev pub recordNumber : Written → ℕ
+recordNumber (W.Upto p) = 0
+recordNumber (W.Refused r) = numberOf r
+
+abbrev pub foundNumber : reader.Read → ℕ
+foundNumber M.End = 0
+foundNumber (M.Found v n k) = 0
+foundNumber (M.Refused r) = numberOf r
 
 -- a refusal leaves the engine as it was
 abbrev pub Kept : Engine → Done → Type 0
@@ -118,6 +143,28 @@ pub record Demand1 : Type 0 where
       ≡ firstOf ((not (eqb (length output) (length scratch)) || not (eqb (length output) (length logs)), 5) ∷ (not (lawfulLogs logs), 6) ∷ [])
   pub gains-leave : (f : Frame) (depth : Float) (logs scratch output : List Float) → (answerOf (gainsOf f depth logs scratch output .0) ≡ 0 → ⊥)
       → (gainsOf f depth logs scratch output .1 ≡ scratch) × (gainsOf f depth logs scratch output .2 ≡ output)
+  -- order 5, a frame's record: 5, 6, 19, 18, 13 in this order, and nothing lent is changed
+  pub write-record : (sample : ℕ) (f : Frame) (depth : Float) (logs scratch : List Float) (out : List ℕ) (at : ℕ)
+      → recordNumber (records.writtenOf sample f depth logs scratch out at .0)
+      ≡ firstOf
+      ((not (eqb (length scratch) (length logs)), 5)
+      ∷ (not (lawfulLogs logs), 6)
+      ∷ (ltb (length logs) 1 || ltb 8193 (length logs), 19)
+      ∷ (not (all (λ i. not (isNan (attenuationAt f depth logs i))) (length logs)), 18)
+      ∷ (not (leb (at + (16 + 2 * length logs)) (length out)), 13)
+      ∷ [])
+  pub write-record-leaves : (sample : ℕ) (f : Frame) (depth : Float) (logs scratch : List Float) (out : List ℕ) (at : ℕ)
+      → (recordNumber (records.writtenOf sample f depth logs scratch out at .0) ≡ 0 → ⊥)
+      → (records.writtenOf sample f depth logs scratch out at .1 ≡ scratch) × (records.writtenOf sample f depth logs scratch out at .2 ≡ out)
+  -- order 5, a record at the start of bytes: no bytes at all is the end; 19 and 13 in this order
+  pub read-record : (s lent : List ℕ)
+      → foundNumber (records-in.readOf s lent .0)
+      ≡ firstOf
+      ((eqb (length s) 0, 0)
+      ∷ (badRecord s, 19)
+      ∷ (not (leb (be16 s 11) (length lent)), 13)
+      ∷ [])
+  pub read-record-leaves : (s lent : List ℕ) → (foundNumber (records-in.readOf s lent .0) ≡ 0 → ⊥) → records-in.readOf s lent .1 ≡ lent
   -- a field of a script, at the start of s: the first one or a later one. A script that ends where a later field could begin is not bad.
   pub field : (s : List ℕ) (first : Bool)
       → readNumber (readOf s first)

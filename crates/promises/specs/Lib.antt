@@ -3,5 +3,6 @@ pub mod Demand3
 pub mod EveryRun
 pub mod Life
 pub mod Marked
+pub mod MaskFiles
 pub mod RoundTrip
 pub mod Runs
