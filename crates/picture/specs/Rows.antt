@@ -1,0 +1,26 @@
+-- The rows of a picture of masks, and what a record's entries come to in one. Definitions only.
+use Prim.Native.Nat.{ℕ, _+_, _-_, _*_, _/_, _%_, _^_, min}
+use mathlib.Core.List.{List, [], _∷_}
+use lib.Dec.{ltb}
+use lib.ListN.{length, take, drop}
+use Rattle.lists.specs.Pick.{pick}
+
+-- how many bins a row has: eight rows an octave, so one bin each up to bin 15, then twice as many with each octave
+unfoldable pub widthOf : ℕ → ℕ
+widthOf row = 2 ^ (row / 8 - 1)
+
+-- the lowest bin of a row; its others are those below the next row's
+unfoldable pub firstBin : ℕ → ℕ
+firstBin row = pick (ltb row 8) row ((8 + row % 8) * widthOf row)
+
+unfoldable pub sumOf : List ℕ → ℕ
+sumOf [] = 0
+sumOf (e ∷ es) = e + sumOf es
+
+-- the whole part of the mean
+unfoldable pub meanOf : List ℕ → ℕ
+meanOf es = sumOf es / length es
+
+-- the entries of a row's bins, as far as the record has them
+unfoldable pub rowOf : ℕ → List ℕ → List ℕ
+rowOf row es = take (min (firstBin (row + 1)) (length es) - firstBin row) (drop (firstBin row) es)
