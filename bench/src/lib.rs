@@ -3,6 +3,8 @@
 #[cfg(original)]
 pub mod calls;
 pub mod events;
+#[cfg(original)]
+pub mod frames;
 pub mod precise;
 pub mod reference;
 pub mod tables;
@@ -80,6 +82,29 @@ mod linked {
             output: *mut f32,
             output_len: usize,
         ) -> u64;
+        pub fn rk_probe_write_record(
+            sample: u64,
+            flat: *const f32,
+            flat_len: usize,
+            activity: f32,
+            depth_db: f32,
+            logs: *const f32,
+            logs_len: usize,
+            scratch: *mut f32,
+            scratch_len: usize,
+            out: *mut u8,
+            room: usize,
+            at: *mut u64,
+        ) -> u64;
+        pub fn rk_probe_read_record(
+            bytes: *const u8,
+            length: usize,
+            entries: *mut u16,
+            places: usize,
+            sample: *mut u64,
+            count: *mut u64,
+            taken: *mut u64,
+        ) -> u64;
     }
 }
 
@@ -134,6 +159,61 @@ pub fn gains(
             output.as_mut_ptr(),
             output.len(),
         )
+    }
+}
+
+/// The proved record of a frame at the start of `out`: how many bytes it takes, or the refusal's number.
+pub fn write_record(
+    sample: u64,
+    flat: &[f32],
+    activity: f32,
+    depth_db: f32,
+    logs: &[f32],
+    scratch: &mut [f32],
+    out: &mut [u8],
+) -> Result<u64, u64> {
+    let mut at = 0;
+    // The slices are apart, and each pointer goes with its own length.
+    let answer = unsafe {
+        linked::rk_probe_write_record(
+            sample,
+            flat.as_ptr(),
+            flat.len(),
+            activity,
+            depth_db,
+            logs.as_ptr(),
+            logs.len(),
+            scratch.as_mut_ptr(),
+            scratch.len(),
+            out.as_mut_ptr(),
+            out.len(),
+            &mut at,
+        )
+    };
+    match answer {
+        0 => Ok(at),
+        number => Err(number),
+    }
+}
+
+/// The proved reader: sample, count and size of the record at the start of the bytes, or the number.
+pub fn read_record(bytes: &[u8], entries: &mut [u16]) -> Result<(u64, u64, u64), u64> {
+    let (mut sample, mut count, mut taken) = (0, 0, 0);
+    // The slices and the numbers are apart, and each pointer goes with its own length.
+    let answer = unsafe {
+        linked::rk_probe_read_record(
+            bytes.as_ptr(),
+            bytes.len(),
+            entries.as_mut_ptr(),
+            entries.len(),
+            &mut sample,
+            &mut count,
+            &mut taken,
+        )
+    };
+    match answer {
+        0 => Ok((sample, count, taken)),
+        number => Err(number),
     }
 }
 

@@ -130,6 +130,26 @@ pub mod open {
         scratch: &mut [f32],
         output: &mut [f32],
     ) {
+        masked(Mask::gains, frame, depth_db, logs, scratch, output);
+    }
+    /// What `gains` hands to `db_to_gain`, 0 where it fills with ones.
+    pub fn decibels(
+        frame: &crate::engine::Frame,
+        depth_db: f32,
+        logs: &[f32],
+        scratch: &mut [f32],
+        output: &mut [f32],
+    ) {
+        masked(Mask::decibels, frame, depth_db, logs, scratch, output);
+    }
+    fn masked(
+        call: fn(&mut Mask, &Frame, f32, &MaskWorkspace, &mut [f32]),
+        frame: &crate::engine::Frame,
+        depth_db: f32,
+        logs: &[f32],
+        scratch: &mut [f32],
+        output: &mut [f32],
+    ) {
         let workspace = MaskWorkspace {
             bin_log2_hz: logs.to_vec(),
             sample_rate: 0.0,
@@ -137,7 +157,7 @@ pub mod open {
         };
         let mut mask = Mask::new(logs.len());
         mask.openness.copy_from_slice(scratch);
-        mask.gains(&frame.into(), depth_db, &workspace, output);
+        call(&mut mask, &frame.into(), depth_db, &workspace, output);
         scratch.copy_from_slice(&mask.openness);
     }
 }

@@ -1,12 +1,13 @@
 //! Finds the archives of the port and tells the program what they have, by the names that stand in
-//! them: the seven functions, the script entry, the writer, the probes.
+//! them: the seven functions, the script entry, the writer, the mask files, the probes.
 use std::path::{Path, PathBuf};
 use std::{env, fs};
 
 /// Archive, a name in it, the library to link, and the `cfg` that says so. The probes' archives
 /// stand before the host's, whose functions they may share.
-const FOUND: [(&str, &str, &str, &str); 9] = [
+const FOUND: [(&str, &str, &str, &str); 11] = [
     ("libprobe.a", "rk_probe_floor32", "probe", "probed"),
+    ("libprobe.a", "rk_probe_write_record", "probe", "recorded"),
     ("libreplay.a", "rk_probe_listing", "replay", "listed"),
     ("libreplay.a", "rk_probe_fields", "replay", "left"),
     (
@@ -25,6 +26,7 @@ const FOUND: [(&str, &str, &str, &str); 9] = [
     ("libhost.a", "rk_log2", "host", "linked"),
     ("libhost.a", "rk_script", "host", "entry"),
     ("libhost.a", "rk_write_rate", "host", "written"),
+    ("libhost.a", "rk_masks", "host", "filed"),
 ];
 
 pub fn link(here: &Path) {

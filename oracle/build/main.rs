@@ -14,7 +14,8 @@ const PARTICLES: &str = "plugins/weft/crates/spectral-dsp/src/particles.rs";
 const SPECTRAL: &str = "plugins/weft/crates/spectral-dsp/src/lib.rs";
 const OIKO: &str = "crates/oiko-dsp/src/lib.rs";
 
-const RUNNER: &str = "src/runner.rs";
+/// The oracle's own reading of 01 and 02 as far as a mutant may change it.
+const READING: [&str; 3] = ["runner.rs", "tenths.rs", "records.rs"];
 
 const APPENDED: [&str; 4] = ["workspace.rs", "engine.rs", "snapshot.rs", "open.rs"];
 
@@ -46,7 +47,10 @@ fn main() {
         .iter()
         .map(|file| read(&here.join("appended").join(file)))
         .collect();
-    fs::write(out.join("runner.rs"), runner_text(&here, mutant.as_ref())).unwrap();
+    for file in READING {
+        let text = reading_text(&here, file, mutant.as_ref());
+        fs::write(out.join(file), text).unwrap();
+    }
     for (module, ours, mutant) in [("original", true, mutant), ("plain", false, None)] {
         let text = module_text(&rust, ours, mutant.as_ref()) + &tail;
         fs::write(out.join(module).with_extension("rs"), text).unwrap();
@@ -54,14 +58,13 @@ fn main() {
     archive::link(&here);
 }
 
-/// The oracle's own reading of 01's refusals, as a mutant may have it.
-fn runner_text(here: &Path, mutant: Option<&Mutant>) -> String {
-    let mut text = read(&here.join(RUNNER));
+fn reading_text(here: &Path, file: &str, mutant: Option<&Mutant>) -> String {
+    let mut text = read(&here.join("src").join(file));
     if let Some(m) = mutant {
-        m.apply(RUNNER, &mut text);
+        m.apply(file, &mut text);
     }
-    apply(RUNNER, &mut text, &[edit("//! ", "// ", 1)]);
-    text
+    // A text that is included has no heading of its own.
+    text.replace("//! ", "// ")
 }
 
 fn module_text(rust: &Path, ours: bool, mutant: Option<&Mutant>) -> String {
@@ -124,10 +127,28 @@ fn module_text(rust: &Path, ours: bool, mutant: Option<&Mutant>) -> String {
         }
     }
     let [particles, prepare, db_to_gain] = parts;
+    let decibels = decibels_text(&particles);
     format!(
         "{particles}\n{db_to_gain}\nimpl MaskWorkspace {{\n{prepare}}}\n\
+         impl Mask {{\n{decibels}}}\n\
          const HEADING: &str = {heading:?};\n"
     )
+}
+
+/// The original's `gains` that hands out what goes to `db_to_gain`, and 0 decibels where it fills with
+/// ones.
+fn decibels_text(particles: &str) -> String {
+    let mut text = cut(PARTICLES, particles, "    pub fn gains(\n", "\n    }\n");
+    apply(
+        PARTICLES,
+        &mut text,
+        &[
+            edit("pub fn gains(", "pub fn decibels(", 1),
+            edit("output.fill(1.0);", "output.fill(0.0);", 1),
+            edit("db_to_gain(", "std::convert::identity(", 1),
+        ],
+    );
+    text
 }
 
 fn read(path: &Path) -> String {

@@ -4,7 +4,9 @@ use crate::arguments::{Arguments, ARGUMENTS};
 use crate::draws::mixed;
 use crate::part::Part;
 use crate::probes::{Probe, PROBED, PROBES};
-use crate::{elementary, late, lent, marked, masks, ours, reached, scripts, writing};
+use crate::{
+    elementary, filing, late, lent, marked, masks, ours, reached, recording, scripts, writing,
+};
 use std::io::{self, Write};
 
 /// A part that differs shows this many of its cases.
@@ -34,7 +36,7 @@ impl<W: Write> Sum<'_, W> {
         self.line(&format!("{name}: {cases} cases, {found} differ"))?;
         self.some(differing)
     }
-    fn own(&mut self, name: &str, cases: usize, failing: &[String]) -> io::Result<()> {
+    pub fn own(&mut self, name: &str, cases: usize, failing: &[String]) -> io::Result<()> {
         self.unsound += failing.len() as u64;
         let found = failing.len();
         self.line(&format!(
@@ -91,6 +93,8 @@ pub fn compare(count: u64, base: u64, limit: u64, out: &mut impl Write) -> io::R
         numbers,
         &reached::missing(base),
     )?;
+    let (checks, failing) = recording::failing();
+    sum.own("order 5's table and tenths", checks, &failing)?;
     if ours::LINKED {
         for check in elementary::checks(base) {
             sum.part(&check.name, check.cases, &check.failed)?;
@@ -117,6 +121,8 @@ pub fn compare(count: u64, base: u64, limit: u64, out: &mut impl Write) -> io::R
     } else {
         sum.absent("the single layers (no libprobe.a)")?;
     }
+    recording::compare(base, &mut sum)?;
+    filing::compare(count, base, limit, &mut sum)?;
     writing::compare(base, &mut sum)?;
     scripts::compare(count, base, limit, &mut sum)?;
     let (cases, differ) = (sum.cases, sum.differ);

@@ -4,8 +4,9 @@ use crate::draws::mixed;
 use crate::engine::Particles;
 use crate::gen::{script, KINDS};
 use crate::original::Engine;
+use crate::records;
 use crate::runner::{run, Answer};
-use crate::{calls, late, listing, masks};
+use crate::{calls, late, listing, masks, recorded};
 use std::io::{self, Write};
 
 #[derive(Default)]
@@ -40,6 +41,14 @@ pub fn state_digest<E: Particles>(start: u64, script: &[u8]) -> u64 {
     digest.0
 }
 
+/// The mask file of a script, at a small size, as one number.
+fn file_digest(script: &[u8], depth_db: f32) -> u64 {
+    const ROOM: usize = 1 << 18;
+    let (mut out, mut at) = (vec![0; ROOM], 0);
+    let answer = records::file::<Engine>(script, 16, depth_db, &mut out, &mut at);
+    Digest::text(&out[..at as usize]).wrapping_add(answer.into())
+}
+
 /// A line for each of `seeds` scripts of every kind, and for each block of single calls.
 pub fn digest(seeds: u64, out: &mut impl Write) -> io::Result<()> {
     for seed in 0..seeds {
@@ -55,6 +64,13 @@ pub fn digest(seeds: u64, out: &mut impl Write) -> io::Result<()> {
                 Digest::text(&lent),
                 state_digest::<Engine>(0, &script),
             )?;
+            writeln!(
+                out,
+                "{} {seed} masks {:016x} {:016x}",
+                kind.name,
+                file_digest(&script, 12.5),
+                file_digest(&script, f32::NAN),
+            )?;
             let start = late::start(seed, &script);
             writeln!(
                 out,
@@ -68,6 +84,7 @@ pub fn digest(seeds: u64, out: &mut impl Write) -> io::Result<()> {
             ("mask", masks::mask_lines(seed, 200).0),
             ("bins", masks::bin_lines(seed, 100)),
             ("attenuation", masks::attenuation_lines(seed, 200)),
+            ("records", recorded::lines(seed, 200)),
             ("calls", calls::lines(seed, 2_000)),
         ] {
             writeln!(out, "{name} {seed} {:016x}", Digest::text(text.as_bytes()))?;

@@ -66,7 +66,7 @@ mod absent {
 #[cfg(not(probed))]
 use absent::*;
 
-fn flat(frame: &Frame) -> Vec<f32> {
+pub fn flat(frame: &Frame) -> Vec<f32> {
     frame.windows.concat()
 }
 
@@ -89,7 +89,7 @@ fn gains(c: &Case, scratch: &mut [f32], output: &mut [f32]) -> u64 {
     }
 }
 
-fn bits(floats: &[f32]) -> Vec<u32> {
+pub fn bits(floats: &[f32]) -> Vec<u32> {
     floats.iter().map(|x| bits32(*x)).collect()
 }
 
@@ -99,7 +99,7 @@ fn differs(name: &str, at: u64, want: &[Vec<u32>], got: &[Vec<u32>]) -> Option<S
 
 /// Lengths 0, 1, 2 and 8,193; logs equal, unsorted, not finite, and a bin 0 above all others; each
 /// with the depths and activities at which a rule begins, and a window of every odd kind.
-fn edges(base: u64) -> Vec<Case> {
+pub fn edges(base: u64) -> Vec<Case> {
     let table = open::bin_table(48_000.0, 16_384);
     let logs = [
         vec![],

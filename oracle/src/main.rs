@@ -13,6 +13,7 @@ mod engine;
 mod events;
 mod exact;
 mod field;
+mod filing;
 mod gen;
 mod late;
 mod left;
@@ -28,6 +29,8 @@ mod part;
 mod port;
 mod probes;
 mod reached;
+mod recorded;
+mod recording;
 mod register;
 mod scripts;
 #[cfg(not(linked))]
@@ -35,6 +38,7 @@ mod standin;
 mod state;
 mod stored;
 mod value;
+mod whole;
 mod writing;
 
 /// The original with our functions.
@@ -52,6 +56,14 @@ mod plain {
 /// 01 around the engine. It goes through the build, so that a mutant may change it.
 mod runner {
     include!(concat!(env!("OUT_DIR"), "/runner.rs"));
+}
+
+/// Order 5's numbers and records, which a mutant may change too.
+mod tenths {
+    include!(concat!(env!("OUT_DIR"), "/tenths.rs"));
+}
+mod records {
+    include!(concat!(env!("OUT_DIR"), "/records.rs"));
 }
 
 use std::io::{self, Read, Write};

@@ -1,5 +1,6 @@
 //! What 01 states outright, asked of the original: the twelve marked examples, the sample script,
-//! and SplitMix64's published outputs. And what 02 states of the writer, asked of the encoder.
+//! and SplitMix64's published outputs. And what 02 states of the writer and of records, asked of the
+//! encoder and of the reading.
 use crate::encoder::{encoded, rewritten};
 use crate::engine::Particles;
 use crate::field::{Field, Settings};
@@ -7,6 +8,7 @@ use crate::gen::script::Script;
 use crate::gen::values::settings;
 use crate::original::{open, Engine};
 use crate::runner::run;
+use crate::tenths::{table, tenth};
 use crate::value::Value;
 use crate::{listing, ours};
 
@@ -83,6 +85,14 @@ pub fn marked() -> Vec<(&'static str, bool)> {
         (
             "a NaN in a seek is written as 7FF8000000000000",
             encoded(&Field::Seek(f64::from_bits(u64::MAX)))[3..] == [0x7f, 0xf8, 0, 0, 0, 0, 0, 0],
+        ),
+        (
+            "the table starts at 32,768, ends at 33 and has 601 entries",
+            (table()[0], table()[600], table().len()) == (32_768, 33, 601),
+        ),
+        (
+            "halves of a tenth go upward",
+            [0.25, 0.75, 59.75].map(tenth) == [Some(3), Some(8), Some(598)],
         ),
     ]
 }

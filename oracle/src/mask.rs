@@ -19,16 +19,27 @@ pub fn gains(
     if !logs_pass(logs) {
         return 6;
     }
+    open::gains(frame, depth_db, &sorted(logs), scratch, output);
+    0
+}
+
+/// What the original hands to `db_to_gain` at each bin, 0 where it gives the ones, of logs that pass.
+pub fn decibels(frame: &Frame, depth_db: f32, logs: &[f32], scratch: &mut [f32]) -> Vec<f32> {
+    let mut output = vec![f32::NAN; logs.len()];
+    open::decibels(frame, depth_db, &sorted(logs), scratch, &mut output);
+    output
+}
+
+fn sorted(logs: &[f32]) -> Vec<f32> {
     let mut sorted = logs.to_vec();
     if let Some(first) = sorted.first_mut() {
         *first = f32::NEG_INFINITY;
     }
-    open::gains(frame, depth_db, &sorted, scratch, output);
-    0
+    sorted
 }
 
 /// From bin 1 on every log is finite, and from bin 2 on none is less than the one before it.
-fn logs_pass(logs: &[f32]) -> bool {
+pub fn logs_pass(logs: &[f32]) -> bool {
     let from_one = logs.get(1..).unwrap_or_default();
     from_one.iter().all(|log| log.is_finite()) && from_one.windows(2).all(|pair| pair[0] <= pair[1])
 }

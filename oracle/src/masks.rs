@@ -90,8 +90,8 @@ fn shown(floats: &[f32]) -> String {
 }
 
 /// One line for each mask case: the answer, then what output and scratch hold. Where 01 does not
-/// differ the original must answer the same with the logs as they are; the second number counts
-/// those where it doesn't.
+/// differ the original must answer the same with the logs as they are, and each gain must be that of
+/// the decibels which records are made of; the second number counts those where one isn't so.
 pub fn mask_lines(seed: u64, count: usize) -> (String, usize) {
     let mut d = Draws::new(seed, "mask");
     let mut text = String::new();
@@ -102,6 +102,15 @@ pub fn mask_lines(seed: u64, count: usize) -> (String, usize) {
         let answer = mask::gains(&c.frame, c.depth_db, &c.logs, &mut c.scratch, &mut c.output);
         let (out, held) = (shown(&c.output), shown(&c.scratch));
         writeln!(text, "mask {answer} output {out} scratch {held}").unwrap();
+        if answer == 0 {
+            let mut opened = scratch.clone();
+            let decibels = mask::decibels(&c.frame, c.depth_db, &c.logs, &mut opened);
+            let gains: Vec<f32> = decibels.iter().map(|db| open::db_to_gain(*db)).collect();
+            if shown(&gains) != out || shown(&opened) != held {
+                writeln!(text, "mask by decibels differs").unwrap();
+                differ += 1;
+            }
+        }
         if answer == 0 && mask::original_agrees(&c.logs) {
             open::gains(&c.frame, c.depth_db, &c.logs, &mut scratch, &mut output);
             if shown(&output) != out || shown(&scratch) != held {

@@ -140,8 +140,9 @@ fn alone(lent: &mut Lent, rate: bool, writer: &Writer, words: &[u64]) -> bool {
     first && lent.write(writer, words) == (0, 0) && lent.same() && read_back(lent)
 }
 
-/// A room and a count for an event of so many bytes: mostly it fits, at times to the last byte.
-fn place(size: u64, d: &mut Draws) -> (u64, u64) {
+/// A room and a count for an event or a record of so many bytes: mostly it fits, at times to the last
+/// byte.
+pub fn place(size: u64, d: &mut Draws) -> (u64, u64) {
     let free = match d.below(4) {
         0 => d.below(2 * size),
         1 => size,

@@ -32,7 +32,7 @@ fn window_at(flat: &[f32], j: usize) -> Window
     }
 }
 
-fn frame_of(flat: &[f32], activity: f32) -> Frame
+pub fn frame_of(flat: &[f32], activity: f32) -> Frame
     ensures { λ r. ⌜ r ≡ frameOf (now (flat .entry)) activity ⌝ }
 {
     let none = Window {

@@ -25,12 +25,17 @@ use settings::Shape;
 use timing::SprinkleStream;
 
 mod frames;
+mod records;
 
 pub use frames::rk_probe_attenuation_db;
 pub use frames::rk_probe_bin_table;
 pub use frames::rk_probe_gains;
 pub use frames::rk_probe_openness;
 pub use frames::rk_probe_taper;
+pub use records::rk_probe_entry;
+pub use records::rk_probe_read_record;
+pub use records::rk_probe_tenths;
+pub use records::rk_probe_write_record;
 
 #[no_mangle]
 pub extern "C" fn rk_probe_floor32(x: f32) -> f32
