@@ -1,0 +1,3 @@
+pub mod Records
+pub mod Masks
+pub mod Walk

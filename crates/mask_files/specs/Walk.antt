@@ -1,0 +1,63 @@
+-- A walk over the accepted frames of a script, a record a step. Definitions only.
+use Prim.Native.Nat.{ℕ, _+_}
+use mathlib.Core.List.{List}
+use lib.ListN.{length, drop}
+use lib.Ieee.{Float}
+use Rattle.refusals.specs.declared.Answer.{Answer}
+use Rattle.state.specs.State.{grown}
+use Rattle.steps.specs.Steps.{fresh}
+use Rattle.windows.specs.declared.Frame.{Frame}
+use Rattle.lines.specs.declared.Line.{Line}
+use Rattle.lines.specs.declared.Line.the-variants as L
+use Rattle.turns.specs.declared.Reached.{Reached}
+use Rattle.turns.specs.declared.Until.the-variants as U
+use Rattle.turns.specs.Reaching.{reachedOf}
+use Rattle.mask_records.specs.declared.Written.{Written}
+use Rattle.mask_records.specs.declared.Written.the-variants as W
+use Rattle.mask_records.specs.Written.{writtenOf}
+use Rattle.mask_files.specs.declared.Made.{Made}
+use Rattle.mask_files.specs.declared.Made.the-variants as M
+use Rattle.mask_files.specs.declared.Measured.{Measured}
+use Rattle.mask_files.specs.declared.Step.{Step}
+use Rattle.mask_files.specs.declared.Walk.{Walk}
+
+-- before the first field
+unfoldable pub startOf : Walk
+startOf = record { run = fresh; n = 1; at = 0 }
+
+-- behind the field that was reached. Its number counts on as a word of 64 bits; its place is in the script, or where it was if that lies behind the script.
+abbrev pub afterOf : Walk → Reached → Walk
+afterOf walk r = record { run = r .turn .run; n = grown (r .n); at = walk .at + r .at + r .turn .taken }
+
+abbrev pub steppedOf : Walk → Made → Step
+steppedOf walk made = record { walk = walk; made = made }
+
+-- a record's refusal is told with the number of the frame's field
+abbrev pub madeOf : ℕ → Written → Made
+madeOf n (W.Upto after) = M.Record after
+madeOf n (W.Refused r) = M.Refused n r
+
+-- the step, and then scratch and out afterwards
+abbrev pub writtenBy : Walk → ℕ → Written × List Float × List ℕ → Step × List Float × List ℕ
+writtenBy walk n w = (steppedOf walk (madeOf n (w .0)), w .1, w .2)
+
+-- by the line of the field that was reached: an accepted frame's, or the script's last
+abbrev pub stepBy : Walk → Frame → Line → Float → List Float → List Float → List ℕ → ℕ → Step × List Float × List ℕ
+stepBy walk f (L.Frame n v) depth logs scratch out at = writtenBy walk n (writtenOf (v .sample) f depth logs scratch out at)
+stepBy walk f L.Nothing depth logs scratch out at = (steppedOf walk (M.Last L.Nothing), scratch, out)
+stepBy walk f (L.Refused n r) depth logs scratch out at = (steppedOf walk (M.Last (L.Refused n r)), scratch, out)
+stepBy walk f (L.Bad n r) depth logs scratch out at = (steppedOf walk (M.Last (L.Bad n r)), scratch, out)
+stepBy walk f (L.End n) depth logs scratch out at = (steppedOf walk (M.Last (L.End n)), scratch, out)
+
+abbrev pub reachOf : Walk → List ℕ → Reached
+reachOf walk script = reachedOf U.Frame (walk .run) (walk .n) (drop (walk .at) script)
+
+-- behind the script's end nothing is left of it
+unfoldable pub stepOf : Walk → List ℕ → Float → List Float → List Float → List ℕ → ℕ → Step × List Float × List ℕ
+stepOf walk script depth logs scratch out at =
+    let r = reachOf walk script in
+    stepBy (afterOf walk r) (r .turn .run .frame) (r .turn .line) depth logs scratch out at
+
+-- how many bytes there are, and how they end
+abbrev pub measuredOf : List ℕ × Answer → Measured
+measuredOf filed = record { bytes = length (filed .0); answer = filed .1 }

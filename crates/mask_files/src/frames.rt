@@ -1,0 +1,106 @@
+// A walk over the accepted frames of a script, a record a step.
+ghost use mathlib.Core.Path.{_≡_};
+ghost use Prim.Native.Nat.{_+_, _≤_, _<_, _^_};
+ghost use lib.ListN.{length, drop};
+ghost use Rattle.mask_files.specs.Walk.{startOf, afterOf, madeOf, stepOf};
+use crate::Made;
+use crate::Step;
+use crate::Walk;
+use lines::Line;
+use mask_records::Written;
+use turns::Reached;
+
+// The walk before a script's first field.
+pub fn start() -> Walk
+    ensures { λ r. ⌜ r ≡ startOf ⌝ }
+{
+    let run = steps::fresh();
+    Walk { run, n: 1, at: 0 }
+}
+
+// A place behind the script's end, where nothing is left of it, is its end.
+fn inside(at: usize, script: &[u8]) -> usize
+    ensures { λ r. ⌜ (r ≤ length (now (script .entry))) × (drop r (now (script .entry)) ≡ drop at (now (script .entry))) ⌝ }
+{
+    if at < script.len() { at } else { script.len() }
+}
+
+// The walk behind the field that was reached.
+fn behind(walk: Walk, reached: Reached) -> Walk
+    requires { ⌜ walk .at + reached .at + reached .turn .taken < 2 ^ 64 ⌝ }
+    ensures { λ r. ⌜ r ≡ afterOf walk reached ⌝ }
+{
+    let turn = reached.turn;
+    let run = turn.run;
+    let n = std::num::wrapping_add_u64(reached.n, 1);
+    Walk {
+        run,
+        n,
+        at: walk.at + reached.at + turn.taken,
+    }
+}
+
+fn made(n: u64, written: Written) -> Made
+    ensures { λ r. ⌜ r ≡ madeOf n written ⌝ }
+{
+    match written {
+        Written::Upto(after) => Made::Record(after),
+        Written::Refused(refusal) => Made::Refused(n, refusal),
+    }
+}
+
+// From where the walk stands to the next accepted frame, whose record goes to a place of `out`; or to
+// the script's last line.
+pub fn next_record(
+    walk: Walk,
+    script: &[u8],
+    depth_db: f32,
+    logs: &[f32],
+    scratch: &mut [f32],
+    out: &mut [u8],
+    at: usize,
+) -> Step
+    ensures { λ r. ⌜ (r, now (scratch .exit), now (out .exit)) ≡ stepOf walk (now (script .entry)) «depth_db» (now (logs .entry)) (now (scratch .entry)) (now (out .entry)) at ⌝ }
+{
+    let from = inside(walk.at, script);
+    let run = walk.run;
+    let reached = turns::next_frame(run, walk.n, &script[from..]);
+    let next = behind(walk, reached);
+    let turn = reached.turn;
+    let line = turn.line;
+    match line {
+        Line::Frame(n, values) => {
+            let run = turn.run;
+            let frame = run.frame;
+            let written = mask_records::write_record(
+                values.sample,
+                frame,
+                depth_db,
+                logs,
+                scratch,
+                out,
+                at,
+            );
+            Step {
+                walk: next,
+                made: made(n, written),
+            }
+        }
+        Line::Nothing => Step {
+            walk: next,
+            made: Made::Last(Line::Nothing),
+        },
+        Line::Refused(n, refusal) => Step {
+            walk: next,
+            made: Made::Last(Line::Refused(n, refusal)),
+        },
+        Line::Bad(n, refusal) => Step {
+            walk: next,
+            made: Made::Last(Line::Bad(n, refusal)),
+        },
+        Line::End(n) => Step {
+            walk: next,
+            made: Made::Last(Line::End(n)),
+        },
+    }
+}
