@@ -12,7 +12,7 @@ use Rattle.lists.specs.Pick.{pick, picked, passed, either, by-case}
 use Rattle.refusals.specs.declared.Answer.{Answer}
 use Rattle.refusals.specs.declared.Answer.the-variants.{Taken, Refused}
 use Rattle.refusals.specs.declared.Refusal.{Refusal}
-use Rattle.refusals.specs.declared.Refusal.the-variants.{Rate, Slot, Size, Elapsed, Lengths, Logs, Tag, Cut, Value, Place, Script, Room, Attenuation, Record}
+use Rattle.refusals.specs.declared.Refusal.the-variants.{Rate, Slot, Size, Elapsed, Lengths, Logs, Seconds, Tag, Cut, Value, Place, Script, Room, Attenuation, Record}
 use Rattle.refusals.specs.Numbers.{numberOf, answerOf}
 use Rattle.settings.specs.declared.Config.{Config}
 use Rattle.settings.specs.Settings.{checkedOf, lawfulRate}
@@ -41,16 +41,22 @@ use Rattle.mask_records.specs.declared.Read.the-variants as M
 use Rattle.mask_records.specs.Entries.{attenuationAt}
 use Rattle.mask_records.specs.Written.{writtenOf}
 use Rattle.mask_records.specs.Found as records-in
+use Rattle.mask_files.specs.declared.Filed.{Filed}
+use Rattle.mask_files.specs.declared.Filed.the-variants as Files
+use Rattle.mask_files.specs.Records.{filedOf}
+use Rattle.mask_files.specs.Masks.{logsFor, placedBy, masksOf}
 use Rattle.fields.specs.declared.Field.{Field}
 use Rattle.script.specs.declared.Read.the-variants as R
 use Rattle.fields.specs.Bytes.{be16}
+use Rattle.text.specs.Put.{splice}
+use Rattle.turns.specs.Turns.{turnsOf}
 use Rattle.fields.specs.Table.{kindOf, lengthOf, lawful}
 use Rattle.script.specs.Field.{misplaced, unknown, bodyOf, readOf}
 use Rattle.ending.specs.declared.Ended.{Ended}
 use Rattle.ending.specs.Ended.{ranOf}
 use Rattle.entry.specs.Entry.{entryAnswer, ifTaken, entryBytes}
 use Rattle.promises.proofs.Writing.{listed-by, unlisted-by, written-by, unwritten-by}
-use Rattle.promises.specs.Demand1.{Row, firstOf, NoneHolds, Given, badSlot, readNumber, Kept, Demand1, badRecord, recordNumber, foundNumber}
+use Rattle.promises.specs.Demand1.{Row, firstOf, NoneHolds, Given, badSlot, readNumber, Kept, Demand1, badRecord, recordNumber, foundNumber, filedNumber}
 
 -- ---- the first test that holds
 found : (rows : List Row) (k : ℕ) → (k ≡ 0 → ⊥) → firstOf rows ≡ k → Given rows k
@@ -219,6 +225,46 @@ module _ (s lent : List ℕ) where
   unfolding records-in.readOf records-in.headed
   record-read = handed (eqb (length s) 0) (records-in.headed s) (all (λ i. isEntry (be16 s (16 + 2 * i))) (be16 s 11)) (leb (be16 s 11) (length lent)) _ _ _ _ lent
 
+-- ---- the mask file of a script
+counts : (r : Refusal) → eqb (numberOf r) 0 ≡ false
+counts Rate = refl
+counts Slot = refl
+counts Size = refl
+counts Elapsed = refl
+counts Lengths = refl
+counts Logs = refl
+counts Seconds = refl
+counts Tag = refl
+counts Cut = refl
+counts Value = refl
+counts Place = refl
+counts Script = refl
+counts Room = refl
+counts Attenuation = refl
+counts Record = refl
+
+placed-file : (bytes : List ℕ) (ended : Answer) (out : List ℕ) (at : ℕ)
+    → let got = placedBy bytes ended out at in
+    (filedNumber (got .0) ≡ firstOf ((not (eqb (answerOf ended) 0), answerOf ended) ∷ (not (leb (at + length bytes) (length out)), 13) ∷ [])) × ((filedNumber (got .0) ≡ 0 → ⊥) → got .1 ≡ out)
+unfolding firstOf pick
+placed-file bytes (Refused r) out at = (rw (counts r), λ n. refl)
+placed-file bytes Taken out at = room (leb (at + length bytes) (length out))
+  where
+    room : (g : Bool)
+        → let got : Filed × List ℕ = pick g (Files.Upto (at + length bytes), splice out at bytes) (Files.Refused Room, out) in
+        (filedNumber (got .0) ≡ pick (not g) 13 0) × ((filedNumber (got .0) ≡ 0 → ⊥) → got .1 ≡ out)
+    room true = (refl, λ n. absurd (n refl))
+    room false = (refl, λ n. refl)
+
+filed-first : (a b c : Bool) (got : Filed × List ℕ) (out : List ℕ) (rows : List Row) → (filedNumber (got .0) ≡ firstOf rows) × ((filedNumber (got .0) ≡ 0 → ⊥) → got .1 ≡ out)
+    → let all : Filed × List ℕ = pick a (Files.Refused Size, out) (pick b (Files.Refused Size, out) (pick c (Files.Refused Script, out) got)) in
+    (filedNumber (all .0) ≡ firstOf ((a || b, 3) ∷ (c, 12) ∷ rows)) × ((filedNumber (all .0) ≡ 0 → ⊥) → all .1 ≡ out)
+unfolding firstOf pick
+filed-first true b c got out rows h = (refl, λ n. refl)
+filed-first false true c got out rows h = (refl, λ n. refl)
+filed-first false false true got out rows h = (refl, λ n. refl)
+filed-first false false false got out rows h = h
+
 -- ---- a field of a script
 field-read : (a first b c d f g h : Bool) (x : Field) (k : ℕ)
     → readNumber
@@ -254,7 +300,7 @@ entry-unwritten s o n = unwritten (entryAnswer s o) _ o n
 
 -- ---- all of it
 pub demand1 : Demand1
-unfolding newEngineOf lawfulRate configuredOf checkedOf setSourceOf retireSourceOf releaseSourceOf advancedOf triggeredOf framedOf takenOf accepted bins.preparedOf readOf bodyOf entryAnswer ranOf
+unfolding newEngineOf lawfulRate configuredOf checkedOf setSourceOf retireSourceOf releaseSourceOf advancedOf triggeredOf framedOf takenOf accepted bins.preparedOf readOf bodyOf entryAnswer ranOf masksOf
 demand1 =
     record {
       exactly = given-exactly;
@@ -284,6 +330,14 @@ demand1 =
       write-record-leaves = λ sample f depth logs scratch out at. record-written sample f depth logs scratch out at .1;
       read-record = λ s lent. record-read s lent .0;
       read-record-leaves = λ s lent. record-read s lent .1;
+      masks =
+          λ script size depth out at.
+          let filed = filedOf depth (logsFor script size) (turnsOf script) in
+          filed-first (ltb size 1) (ltb 16384 size) (ltb 60000 (length script)) (placedBy (filed .0) (filed .1) out at) out _ (placed-file (filed .0) (filed .1) out at) .0;
+      masks-leave =
+          λ script size depth out at.
+          let filed = filedOf depth (logsFor script size) (turnsOf script) in
+          filed-first (ltb size 1) (ltb 16384 size) (ltb 60000 (length script)) (placedBy (filed .0) (filed .1) out at) out _ (placed-file (filed .0) (filed .1) out at) .1;
       field =
           λ s first.
           let k = kindOf (getD s 0 0) in

@@ -6,5 +6,6 @@ pub mod Marked
 pub mod MaskFiles
 pub mod Quiet
 pub mod RoundTrip
+pub mod ScriptFiles
 pub mod Stories
 pub mod Writing

@@ -7,6 +7,7 @@ use Rattle.decibels.specs.Tenths.{held, tenthsOf}
 use Rattle.mask_records_laws.proofs.Files.{file-back}
 use Rattle.mask_records_laws.proofs.Frames.{entries-count, entry-own, entries-known, ones-everywhere, written-back}
 use Rattle.mask_records_laws.proofs.WriteBack.{written-again}
+use Rattle.promises.proofs.ScriptFiles.{script-file}
 
 pub mask-files : MaskFiles
 mask-files =
@@ -27,4 +28,5 @@ mask-files =
       read-back = written-back;
       file-back = file-back;
       written-again = written-again;
+      script-file = script-file;
     }

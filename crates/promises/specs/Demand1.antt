@@ -36,6 +36,10 @@ use Rattle.mask_records.specs.declared.Read.the-variants as M
 use Rattle.mask_records.specs.Entries.{attenuationAt}
 use Rattle.mask_records.specs.Written as records
 use Rattle.mask_records.specs.Found as records-in
+use Rattle.mask_files.specs.declared.Filed.{Filed}
+use Rattle.mask_files.specs.declared.Filed.the-variants as Files
+use Rattle.mask_files.specs.Records.{filedOf}
+use Rattle.mask_files.specs.Masks.{logsFor, masksOf}
 use Rattle.script.specs.declared.Read.{Read}
 use Rattle.script.specs.declared.Read.the-variants as R
 use Rattle.fields.specs.Bytes.{be16}
@@ -50,6 +54,7 @@ use Rattle.listing.specs.declared.Listed.the-variants as L
 use Rattle.listing.specs.Listed.{roomFor, listedOf, leftIn}
 use Rattle.ending.specs.Ended.{badOf}
 use Rattle.turns.specs.Last.{lastTurn}
+use Rattle.turns.specs.Turns.{turnsOf}
 use Rattle.entry.specs.Entry.{entryAnswer, entryBytes}
 
 -- a test, and the number that is given where it is the first to hold
@@ -105,6 +110,10 @@ abbrev pub foundNumber : reader.Read → ℕ
 foundNumber M.End = 0
 foundNumber (M.Found v n k) = 0
 foundNumber (M.Refused r) = numberOf r
+
+abbrev pub filedNumber : Filed → ℕ
+filedNumber (Files.Upto p) = 0
+filedNumber (Files.Refused r) = numberOf r
 
 -- a refusal leaves the engine as it was
 abbrev pub Kept : Engine → Done → Type 0
@@ -165,6 +174,17 @@ pub record Demand1 : Type 0 where
       ∷ (not (leb (be16 s 11) (length lent)), 13)
       ∷ [])
   pub read-record-leaves : (s lent : List ℕ) → (foundNumber (records-in.readOf s lent .0) ≡ 0 → ⊥) → records-in.readOf s lent .1 ≡ lent
+  -- order 5, the mask file of a script: 3, 12, then what ends the records, 18 at a frame or the number that the script goes bad with, then 13; nothing is written
+  pub masks : (script : List ℕ) (size : ℕ) (depth : Float) (out : List ℕ) (at : ℕ)
+      → let filed = filedOf depth (logsFor script size) (turnsOf script) in
+      filedNumber (masksOf script size depth out at .0)
+      ≡ firstOf
+      ((ltb size 1 || ltb 16384 size, 3)
+      ∷ (ltb 60000 (length script), 12)
+      ∷ (not (eqb (answerOf (filed .1)) 0), answerOf (filed .1))
+      ∷ (not (leb (at + length (filed .0)) (length out)), 13)
+      ∷ [])
+  pub masks-leave : (script : List ℕ) (size : ℕ) (depth : Float) (out : List ℕ) (at : ℕ) → (filedNumber (masksOf script size depth out at .0) ≡ 0 → ⊥) → masksOf script size depth out at .1 ≡ out
   -- a field of a script, at the start of s: the first one or a later one. A script that ends where a later field could begin is not bad.
   pub field : (s : List ℕ) (first : Bool)
       → readNumber (readOf s first)

@@ -1,5 +1,5 @@
 -- ORDER 5, as it is promised: what the table holds, which entry a bin has, and that what was written is read back.
-use Prim.Native.Nat.{ℕ, _≤_, _<_}
+use Prim.Native.Nat.{ℕ, _+_, _≤_, _<_}
 use mathlib.Core.Path.{_≡_}
 use mathlib.Core.Bool.{true, false}
 use mathlib.Core.List.{List, _++_}
@@ -20,6 +20,11 @@ use Rattle.mask_records.specs.Placed.{sizeOf}
 use Rattle.mask_records.specs.Written.{entriesOf, writtenOf}
 use Rattle.mask_records.specs.Found.{readOf}
 use Rattle.mask_records_laws.specs.Files.{Record, Whole, ReadsAs}
+use Rattle.text.specs.Put.{splice}
+use Rattle.turns.specs.Turns.{turnsOf}
+use Rattle.mask_files.specs.declared.Filed.the-variants as Files
+use Rattle.mask_files.specs.Records.{recordsIn}
+use Rattle.mask_files.specs.Masks.{logsFor, masksOf}
 
 pub record MaskFiles : Type 0 where
   -- the table has 601 entries, and entry n is the one whole number e with (2e - 1)^200 * 10^n < 65,536^200 < (2e + 1)^200 * 10^n
@@ -48,3 +53,7 @@ pub record MaskFiles : Type 0 where
   pub file-back : (rs : List Record) → Every Whole rs → ReadsAs (fileOf rs) rs
   -- a record that was read, and is written again entry by entry, has the bytes that were read
   pub written-again : (s : List ℕ) → Every Byte s → (lent : List ℕ) (sample n k : ℕ) → readOf s lent .0 ≡ Found sample n k → recordOf sample (take n (readOf s lent .1)) ≡ take k s
+  -- the mask file of a script: where the call takes it, the records of its accepted frames, each by its sample and its entries, stand in the buffer one behind the other, the rest of it stays, and the reader finds them
+  pub script-file : (script : List ℕ) (size : ℕ) (depth : Float) (out : List ℕ) (at p : ℕ) → masksOf script size depth out at .0 ≡ Files.Upto p
+      → let rs = recordsIn depth (logsFor script size) (turnsOf script) in
+      (p ≡ at + length (fileOf rs)) × (masksOf script size depth out at .1 ≡ splice out at (fileOf rs)) × ReadsAs (fileOf rs) rs
