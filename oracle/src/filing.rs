@@ -3,6 +3,8 @@
 use crate::compare::Sum;
 use crate::draws::Draws;
 use crate::ends::{ends, up_to};
+use crate::gen::script::Script;
+use crate::gen::values::settings;
 use crate::gen::{script, KINDS};
 use crate::original::Engine;
 use crate::part::Answered;
@@ -43,9 +45,39 @@ unsafe fn rk_masks(
 pub fn compare<W: Write>(count: u64, base: u64, limit: u64, sum: &mut Sum<W>) -> io::Result<()> {
     let mut files = Answered::new("mask files of scripts by rk_masks", FILED);
     if FILED {
+        compare_bad(&mut files);
         compare_files(count, base, limit, &mut files);
     }
-    files.tell(&[0, 3, 9, 11, 12, 13, 18], sum)
+    files.tell(&[0, 1, 3, 8, 9, 10, 11, 12, 13, 18], sum)
+}
+
+/// A script with frames that goes bad in each way, behind them or before: with a NaN for a depth it is
+/// what comes first that is told, and any of it before a want of room.
+fn compare_bad(files: &mut Answered) {
+    let mut frames = Script::default();
+    frames.configure(&settings());
+    for _ in 0..3 {
+        frames.advance(2_000).frame(10.0, 0.04);
+    }
+    let rate = |rate| Script::at(rate).0;
+    let bad: [&[u8]; 5] = [&[], &[99, 0, 0], &[8, 0], &[10, 0, 1, 2], &rate(8_000.0)];
+    for rate in [rate(48_000.0), rate(1.0), Vec::new()] {
+        for bad in bad {
+            for rest in [[&frames.0, bad].concat(), [bad, &frames.0].concat()] {
+                let script = [rate.as_slice(), &rest].concat();
+                let mut filed = Filed {
+                    name: format!("{script:?}"),
+                    script,
+                    files,
+                };
+                for depth_db in [0.0, 12.5, f32::NAN] {
+                    for room in [1_000, 2] {
+                        filed.add(64, depth_db, room, 2);
+                    }
+                }
+            }
+        }
+    }
 }
 
 /// A large size has so few of a script's steps, a small one so many.

@@ -29,6 +29,7 @@ mod part;
 mod port;
 mod probes;
 mod reached;
+mod record_bytes;
 mod recorded;
 mod recording;
 mod register;

@@ -1,13 +1,18 @@
-//! Cases for records of mask files, by seed, frames to be written and bytes to be read, and the
-//! reading's answers to them as lines.
+//! Frames to be written as records of mask files, by seed, and the reading's answers to these and to the
+//! bytes of `record_bytes` as lines.
 use crate::digest::Digest;
 use crate::draws::Draws;
+use crate::ends::{ends, up_to};
 use crate::engine::Frame;
+use crate::field::{read as read_field, Field};
+use crate::gen::{script, KINDS};
 use crate::lent;
 use crate::masks;
-use crate::records::{encoded, read, write, Read, BINS, HEAD};
+use crate::original::{open, Engine};
+use crate::record_bytes::{nearly, Lent};
+use crate::records::{read, write, Read, BINS, HEAD};
+use crate::runner::{run, Answer};
 use crate::scripts::UNTOUCHED;
-use crate::tenths::table;
 use crate::value::bits32;
 use crate::writing::place;
 use std::fmt::Write;
@@ -146,103 +151,48 @@ pub fn ties() -> impl Iterator<Item = Case> {
     })
 }
 
+/// Frames that the original's engine made, a few of each kind of script, over bins of its rate.
+pub fn played(base: u64) -> Vec<Case> {
+    let mut d = Draws::new(base, "records of scripts");
+    let mut cases = Vec::new();
+    for kind in KINDS {
+        let script = script(base, kind);
+        let ends = ends(0, &script);
+        let some = up_to(PLAYED, &ends).last().map_or(0, |end| end.bytes);
+        let Ok((Field::Rate(rate), _)) = read_field(&script, true) else {
+            continue;
+        };
+        let mut frames = Vec::new();
+        let _ = run(0, &script[..some], |_, answer, engine: &Engine| {
+            if let Answer::Framed(frame) = answer {
+                frames.push((engine.elapsed_samples(), (**frame).clone()));
+            }
+        });
+        let step = frames.len() / 8 + 1;
+        for (sample, frame) in frames.into_iter().step_by(step) {
+            let logs = open::bin_table(rate, d.among(1, 3_000) as usize);
+            let mask = masks::Case {
+                frame,
+                depth_db: d.between(0.0, 66.0),
+                scratch: vec![7.5; logs.len()],
+                output: Vec::new(),
+                logs,
+            };
+            let case = placed(mask, &mut d);
+            cases.push(Case { sample, ..case });
+        }
+    }
+    cases
+}
+
+/// A run for these has so many steps.
+const PLAYED: u64 = 100_000;
+
 /// The edges of the mask call, in drawn rooms.
 pub fn mask_edges(base: u64) -> Vec<Case> {
     let mut d = Draws::new(base, "rooms of masks");
     let edges = lent::edges(base).into_iter();
     edges.map(|mask| placed(mask, &mut d)).collect()
-}
-
-/// Bytes to be read, for so many places.
-pub struct Lent {
-    pub bytes: Vec<u8>,
-    pub places: usize,
-}
-
-/// A record of so many drawn entries.
-fn record(count: usize, d: &mut Draws) -> Vec<u8> {
-    let entries: Vec<u16> = (0..count).map(|_| d.pick(table())).collect();
-    encoded(d.word(), &entries)
-}
-
-/// Bytes that are a record and bytes that nearly are: every number in the place of an entry, every byte
-/// in every place of a head, cuts at every place, counts past the limits with all their bytes, records
-/// behind one another, and places too few.
-pub fn nearly(base: u64) -> Vec<Lent> {
-    let mut d = Draws::new(base, "damage");
-    let mut all = Vec::new();
-    let mut add = |bytes: Vec<u8>, places| all.push(Lent { bytes, places });
-    for entry in 0..=u16::MAX {
-        add(encoded(1, &[entry]), 1);
-    }
-    for count in [1, 2, 5, 129] {
-        let bytes = record(count, &mut d);
-        for at in 0..HEAD {
-            for byte in 0..=u8::MAX {
-                let mut changed = bytes.clone();
-                changed[at] = byte;
-                add(changed, count);
-            }
-        }
-        for end in 0..=bytes.len() {
-            add(bytes[..end].to_vec(), count);
-        }
-        for places in 0..count + 3 {
-            add(bytes.clone(), places);
-            // What is no record is told before what has no place.
-            let mut wrong = bytes.clone();
-            wrong[HEAD + 2 * (count - 1)] = 0xff;
-            add(wrong, places);
-        }
-    }
-    for count in [0, 1, BINS - 1, BINS, BINS + 1, 32_767] {
-        let bytes = record(count, &mut d);
-        let whole = bytes.len();
-        for places in [count, count.saturating_sub(1), 40_000] {
-            add(bytes.clone(), places);
-        }
-        add(bytes[..whole - 1].to_vec(), count);
-        add([bytes, vec![0; 5]].concat(), count);
-    }
-    let pair = [record(3, &mut d), record(4, &mut d)].concat();
-    for start in 0..=pair.len() {
-        add(pair[start..].to_vec(), 4);
-    }
-    // The fields in the other order.
-    let first = record(2, &mut d);
-    add([&first[13..], &first[..13]].concat(), 2);
-    all
-}
-
-/// A record with a few drawn bytes changed, longer or shorter by some.
-pub fn damaged(d: &mut Draws) -> Lent {
-    let count = match d.below(8) {
-        0 => d.among(1, 600) as usize,
-        _ => d.among(1, 12) as usize,
-    };
-    let mut bytes = record(count, d);
-    for _ in 0..d.below(3) {
-        let at = d.below(bytes.len() as u64) as usize;
-        match d.below(3) {
-            0 => bytes[at] ^= 1 << d.below(8),
-            1 => bytes[at] = d.word() as u8,
-            _ => {
-                let entry = d.pick(table()).to_be_bytes();
-                let at = HEAD + 2 * d.below(count as u64) as usize;
-                bytes[at..at + 2].copy_from_slice(&entry);
-            }
-        }
-    }
-    match d.below(6) {
-        0 => bytes.truncate(d.below(bytes.len() as u64 + 1) as usize),
-        1 => bytes.extend(record(1, d)),
-        _ => {}
-    }
-    let places = match d.below(6) {
-        0 => d.below(count as u64 + 1) as usize,
-        _ => count + d.below(4) as usize,
-    };
-    Lent { bytes, places }
 }
 
 /// A number for what the reading answers to a frame, with what it leaves.

@@ -4,7 +4,8 @@ use crate::compare::Sum;
 use crate::draws::Draws;
 use crate::lent::{bits, flat};
 use crate::part::{Answered, Part};
-use crate::recorded::{self, Case, Lent};
+use crate::record_bytes::{damaged, nearly, Lent};
+use crate::recorded::{self, Case};
 use crate::records::{read, write, Read};
 use crate::scripts::UNTOUCHED;
 use crate::tenths::{is_tenth, table, tenth, LAST};
@@ -199,6 +200,7 @@ fn compare_frames(base: u64, written: &mut Answered, back: &mut Answered) {
     let edges = recorded::edges().into_iter();
     let edges = edges.chain(recorded::ties());
     let edges = edges.chain(recorded::mask_edges(base));
+    let edges = edges.chain(recorded::played(base));
     let cases = edges.chain((0..FRAMES).map(|_| recorded::case(&mut d)));
     for (n, c) in cases.enumerate() {
         let (mut want_out, mut got_out) = (untouched(c.room), untouched(c.room));
@@ -275,13 +277,13 @@ fn read_same(bytes: &[u8], places: usize) -> (u64, bool) {
     (want[0], same)
 }
 
-fn compare_damaged(base: u64, damaged: &mut Answered) {
+fn compare_damaged(base: u64, part: &mut Answered) {
     let mut d = Draws::new(base, "damaged records");
-    let drawn = (0..DAMAGED).map(|_| recorded::damaged(&mut d));
-    for (n, lent) in recorded::nearly(base).into_iter().chain(drawn).enumerate() {
+    let drawn = (0..DAMAGED).map(|_| damaged(&mut d));
+    for (n, lent) in nearly(base).into_iter().chain(drawn).enumerate() {
         let Lent { bytes, places } = lent;
         let case = format_args!("bytes {n}, {} of them for {places} places", bytes.len());
         let (want, same) = read_same(&bytes, places);
-        damaged.add(case, want, same);
+        part.add(case, want, same);
     }
 }
