@@ -9,9 +9,6 @@ use Rattle.lists.specs.Pick.{cases, passed}
 use Rattle.picture.specs.Rows.{firstBin}
 use Rattle.picture.proofs.rows.first_bin.Statement.{statement}
 use Rattle.picture.proofs.rows.first_bin.Tie as tie
-use Rattle.picture.proofs.rows.first_bin.Reads as reads
-use Rattle.picture.proofs.rows.first_bin.Lts as lts
-use Rattle.picture.proofs.rows.width.Reads as width-reads
 
 returns : tie.Need-returns
 unfolding firstBin

@@ -10,8 +10,6 @@ use Rattle.picture.specs.Rows.{sumOf}
 use Rattle.picture.proofs.Bins.{sum-drop, sum-none}
 use Rattle.picture.proofs.rows.sum.Statement.{statement}
 use Rattle.picture.proofs.rows.sum.Tie as tie
-use Rattle.picture.proofs.rows.sum.Reads as reads
-use Rattle.picture.proofs.rows.sum.Lts as lts
 
 abbrev Inv-loop : tie.InvT-loop
 Inv-loop entries total₀ i₀ i-end total i = (total + sumOf (drop i entries) ≡ sumOf entries) × (total ≤ 65535 * i) × (i ≤ length entries)
