@@ -27,6 +27,17 @@ float rk_sqrt(float x);   /* square root, correctly rounded */
  * program. */
 uint32_t rk_script(const uint8_t *script, size_t length, uint8_t *out, size_t room);
 
+/* Writes the mask file of an event script of `length` bytes: for each accepted frame a record with its
+ * sample and, for each of fft_size / 2 + 1 bins, the gain in units of 1/32,768 at a depth of `depth_db`
+ * decibels (held to 0 to 60). Lent: `out`, of `room` bytes, and `*at`, how many of them are written; the
+ * script, `out` and `*at` must not overlap. Answers 0 with the records behind those bytes and `*at` moved
+ * on by them: 16 bytes a record and two a bin. Else answers, in this order, 3 (a size outside 1 to
+ * 16,384), 12 (above 60,000 bytes), what ended the script (1, 8, 9, 10 or 11 at a bad field, 18 at a frame
+ * with an attenuation that is no number, whichever comes first) or 13 (the records do not fit, or `*at` is
+ * above `room`), and all is as it was. */
+uint32_t rk_masks(const uint8_t *script, size_t length, size_t fft_size, float depth_db,
+                  uint8_t *out, size_t room, uint64_t *at);
+
 /* Writes an event script, one call for each event. Lent: `out`, of `room` bytes, and `*at`, how many of
  * them are written, which must not overlap `out`. Answers 0 with the event behind those and `*at` moved on
  * by it, or 13 where fewer bytes are free than it takes, or `*at` is above `room`, and all is as it was.

@@ -1,5 +1,5 @@
-// What a host may call: the elementary functions on numbers, a script on lent bytes, and the writer of
-// events.
+// What a host may call: the elementary functions on numbers, a script on lent bytes, its mask file, and
+// the writer of events.
 ghost use Rattle.power64.specs.Exp64 as Exp64;
 ghost use Rattle.elementary.specs.Log2.{log2Of};
 ghost use Rattle.powers.specs.Power as Power;
@@ -8,6 +8,7 @@ ghost use Rattle.entry.specs.Entry.{entryAnswer, entryBytes};
 ghost use Rattle.refusals.specs.Numbers.{answerOf};
 ghost use mathlib.Core.Path.{_≡_};
 
+mod masks;
 mod write;
 
 #[no_mangle]
