@@ -9,7 +9,7 @@ use refusals::Refusal;
 // Added by 01: a larger size is refused.
 pub const MAX_FFT_SIZE: usize = 16384;
 
-fn lawful_rate(rate: f32) -> bool
+pub fn lawful_rate(rate: f32) -> bool
     ensures { λ r. ⌜ r ≡ lawfulRate rate ⌝ }
 {
     crate::logs::both(

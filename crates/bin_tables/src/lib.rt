@@ -3,4 +3,5 @@ mod bins;
 mod logs;
 
 pub use bins::bin_table;
+pub use bins::lawful_rate;
 pub use logs::lawful;

@@ -19,9 +19,10 @@ use Rattle.script.specs.declared.Read.{Read}
 use Rattle.script.specs.declared.Read.the-variants as S
 use Rattle.script.specs.Field.{readOf}
 use Rattle.turns.specs.Turns.{turnsOf}
+use Rattle.mask_records_laws.specs.Files.{Record}
 use Rattle.mask_files.specs.declared.Filed.{Filed}
 use Rattle.mask_files.specs.declared.Filed.the-variants.{Upto, Refused}
-use Rattle.mask_files.specs.Records.{filedOf}
+use Rattle.mask_files.specs.Records.{filedOf, recordsIn}
 
 -- the rate of a run before its first field
 abbrev pub standard : Float
@@ -57,6 +58,10 @@ binsOf size = size / 2 + 1
 -- the logarithms of the bins, as the mask call has them
 unfoldable pub logsFor : List ℕ → ℕ → List Float
 logsFor script size = logsOf (div32 (rateOf script) (asFloat size)) (binsOf size)
+
+-- the records of the script's accepted frames, in order
+abbrev pub recordsOf : List ℕ → ℕ → Float → List Record
+recordsOf script size depth = recordsIn depth (logsFor script size) (turnsOf script)
 
 -- what ended the records, and then 13
 abbrev pub placedBy : List ℕ → Answer → List ℕ → ℕ → Filed × List ℕ

@@ -35,7 +35,7 @@ pub struct Step {
 }
 
 // How many bytes a script's records take, and how they end.
-pub struct Measured {
+struct Measured {
     bytes: usize,
     answer: Answer,
 }

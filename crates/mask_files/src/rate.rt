@@ -1,34 +1,22 @@
 // The bins of a script's masks: their logarithms go by the rate that its first field gives.
 ghost use mathlib.Core.Path.{_≡_};
-ghost use mathlib.Core.Bool.{_&&_};
-ghost use Rattle.settings.specs.Settings.{lawfulRate};
 ghost use Rattle.bin_tables.specs.Bins.{preparedOf};
 ghost use Rattle.mask_files.specs.Masks.{rateIn, rateOf};
 use fields::Field;
 use refusals::Answer;
 use script::Read;
 
-// a && b with no branch.
-fn both(a: bool, b: bool) -> bool
-    ensures { λ r. ⌜ r ≡ (a && b) ⌝ }
-{
-    a && b
-}
-
-fn lawful(rate: f32) -> bool
-    ensures { λ r. ⌜ r ≡ lawfulRate rate ⌝ }
-{
-    both(
-        floats::is_finite32(rate),
-        both(8000.0 <= rate, rate <= 384000.0),
-    )
-}
-
 fn rate_in(field: Field) -> f32
     ensures { λ r. ⌜ r ≡ rateIn field ⌝ }
 {
     match field {
-        Field::Rate(rate) => { if lawful(rate) { rate } else { 48000.0 } }
+        Field::Rate(rate) => {
+            if bin_tables::lawful_rate(rate) {
+                rate
+            } else {
+                48000.0
+            }
+        }
         Field::Configure(_) => 48000.0,
         Field::Source(_, _, _, _) => 48000.0,
         Field::Retire(_) => 48000.0,

@@ -21,10 +21,8 @@ use Rattle.mask_records.specs.Written.{entriesOf, writtenOf}
 use Rattle.mask_records.specs.Found.{readOf}
 use Rattle.mask_records_laws.specs.Files.{Record, Whole, ReadsAs}
 use Rattle.text.specs.Put.{splice}
-use Rattle.turns.specs.Turns.{turnsOf}
 use Rattle.mask_files.specs.declared.Filed.the-variants as Files
-use Rattle.mask_files.specs.Records.{recordsIn}
-use Rattle.mask_files.specs.Masks.{logsFor, masksOf}
+use Rattle.mask_files.specs.Masks.{recordsOf, masksOf}
 
 pub record MaskFiles : Type 0 where
   -- the table has 601 entries, and entry n is the one whole number e with (2e - 1)^200 * 10^n < 65,536^200 < (2e + 1)^200 * 10^n
@@ -55,5 +53,5 @@ pub record MaskFiles : Type 0 where
   pub written-again : (s : List ℕ) → Every Byte s → (lent : List ℕ) (sample n k : ℕ) → readOf s lent .0 ≡ Found sample n k → recordOf sample (take n (readOf s lent .1)) ≡ take k s
   -- the mask file of a script: where the call takes it, the records of its accepted frames, each by its sample and its entries, stand in the buffer one behind the other, the rest of it stays, and the reader finds them
   pub script-file : (script : List ℕ) (size : ℕ) (depth : Float) (out : List ℕ) (at p : ℕ) → masksOf script size depth out at .0 ≡ Files.Upto p
-      → let rs = recordsIn depth (logsFor script size) (turnsOf script) in
+      → let rs = recordsOf script size depth in
       (p ≡ at + length (fileOf rs)) × (masksOf script size depth out at .1 ≡ splice out at (fileOf rs)) × ReadsAs (fileOf rs) rs

@@ -8,8 +8,8 @@ use Rattle.mask_files.proofs.rate.rate_in.Tie as tie
 enum-known-field : tie.Need-enum-known-field
 enum-known-field c = search needs
 
-lawful-requires : tie.Need-lawful-requires
-lawful-requires c κs = search needs
+lawful-rate-requires : tie.Need-lawful-rate-requires
+lawful-rate-requires c κs = search needs
 
 enum-told : tie.Need-enum-told
 enum-told c = search needs
@@ -48,10 +48,10 @@ enum-told-12 : tie.Need-enum-told-12
 enum-told-12 c = search needs
 
 returns : tie.Need-returns
-returns c = rw (c .before .before .before .field .given .1) (took _ _ _ _ (sym (c .before .lawful .ensures) ∙ c .if1 .taken) refl)
+returns c = rw (c .before .before .before .field .given .1) (took _ _ _ _ (sym (c .before .lawful-rate .ensures) ∙ c .if1 .taken) refl)
 
 returns-2 : tie.Need-returns-2
-returns-2 c = rw (c .before .before .before .field .given .1) (skipped _ _ _ _ (sym (c .before .lawful .ensures) ∙ c .if1 .left) refl)
+returns-2 c = rw (c .before .before .before .field .given .1) (skipped _ _ _ _ (sym (c .before .lawful-rate .ensures) ∙ c .if1 .left) refl)
 
 returns-3 : tie.Need-returns-3
 returns-3 c = search needs
@@ -94,7 +94,7 @@ rate-in-spec =
     tie.close
     (tie.spec
     enum-known-field
-    lawful-requires
+    lawful-rate-requires
     enum-told
     enum-told-2
     enum-told-3
