@@ -1,6 +1,7 @@
-// The mask file of a script: SIZE and TENTHS as arguments, the script on standard input. Each record
-// goes to standard output as it is made, so that the file never stands in memory; how it ended goes
-// to standard error.
+// The mask file of a script. Standard input has the FFT size in five digits, the depth in nine digits
+// of tenths of a decibel, and then the script: so nothing but reading and writing is asked of C. Each
+// record goes to standard output as it is made, so that the file never stands in memory; how it ended
+// goes to standard error.
 ghost use mathlib.Core.Path.{_≡_};
 ghost use Prim.Native.Nat.{_≤_};
 ghost use Rattle.floats.specs.Names.{f32, div32, asFloat};
@@ -39,14 +40,19 @@ fn digits(text: &[u8]) -> Number {
     Number::Is(n)
 }
 
-fn argument_in(text: &mut [u8], i: usize) -> Number {
-    let n = os::arg(i, text);
+fn next(text: &mut [u8]) -> Number {
+    let n = io::read_full(0, text);
     digits(&text[..n])
 }
 
-fn argument(i: usize) -> Number {
-    let mut text = io::buffer();
-    argument_in(&mut text, i)
+fn size() -> Number {
+    let mut text = [0u8; 5];
+    next(&mut text)
+}
+
+fn tenths() -> Number {
+    let mut text = [0u8; 9];
+    next(&mut text)
 }
 
 // Tenths of a decibel, as the mask takes its depth.
@@ -205,8 +211,8 @@ fn run(size: u64, tenths: u64) {
 }
 
 fn main() {
-    let size = argument(1);
-    let tenths = argument(2);
+    let size = size();
+    let tenths = tenths();
     match size {
         Number::Is(size) => match tenths {
             Number::Is(tenths) => run(size, tenths),
