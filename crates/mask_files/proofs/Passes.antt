@@ -5,9 +5,8 @@ use mathlib.Core.List.{List, []}
 use native.Mathlib.Omega.{arith}
 use lib.Ieee.{Float}
 use lib.ListN.{length, length-append}
-use borrow.Author.Tests.{le-leb}
-use Rattle.text.specs.Put.{Put, splice, bufferOf, placeOf}
-use Rattle.text.proofs.Laws.{piece, seq, nothing}
+use Rattle.text.specs.Put.{Put, splice}
+use Rattle.text.proofs.Laws.{nothing, seq, spliced}
 use Rattle.refusals.specs.declared.Answer.{Answer}
 use Rattle.refusals.specs.declared.Answer.the-variants.{Taken, Refused}
 use Rattle.refusals.specs.declared.Refusal.{Refusal}
@@ -98,10 +97,6 @@ pub record Writing (depth : Float) (logs : List Float) (script o : List ℕ) (st
   -- whatever writes what is left, writes with what is written the whole
   pub goes : (p : List ℕ) (r : ℕ) → Put out p at r (leftOf depth logs script walk .0) → Put o p start r (wholeOf depth logs script .0)
 
-spliced : (o p : List ℕ) (at : ℕ) (w : List ℕ) → at + length w ≤ length o → p ≡ splice o at w → Put o p at (at + length w) w
-unfolding placeOf bufferOf
-spliced o p at w h e = piece (rw (le-leb _ _ h), rw (le-leb _ _ h) e)
-
 module _ (depth : Float) (logs : List Float) (script o : List ℕ) (start : ℕ) where
   pub writing-starts : (walk : Walk) → walk ≡ startOf → wholeOf depth logs script .1 ≡ Taken → start + length (wholeOf depth logs script .0) ≤ length o → Writing depth logs script o start o walk start
   writing-starts walk e t h =
@@ -117,7 +112,7 @@ module _ (depth : Float) (logs : List Float) (script o : List ℕ) (start : ℕ)
   module _ (out : List ℕ) (walk : Walk) (at : ℕ) (g : Writing depth logs script o start out walk at) where
     pub writing-on : (next : Walk) (new : List ℕ) (after : ℕ) → Recorded depth logs script walk next out new at after → Writing depth logs script o start new next after
     writing-on next new after w =
-        let put = spliced out new at (w .bytes) (w .room) (w .buffer) in
+        let put = spliced (w .room) (w .buffer) in
         let rest = leftOf depth logs script next in
         let long : length (leftOf depth logs script walk .0) ≡ length (w .bytes) + length (rest .0) = ap (λ (x : List ℕ × Answer). length (x .0)) (w .files) ∙ length-append (w .bytes) (rest .0) in
         let same = put .same in

@@ -8,7 +8,7 @@ use lib.Seq.{paste, take-length}
 use borrow.Author.Tests.{le-leb, lt-leb}
 use Rattle.lists.specs.Pick.{took, skipped}
 use Rattle.text.specs.Put.{Put, splice, bufferOf, placeOf}
-use Rattle.text.proofs.Laws.{piece, seq, turn}
+use Rattle.text.proofs.Laws.{piece, spliced, seq, turn}
 use Rattle.refusals.specs.declared.Refusal.the-variants.{Room}
 use Rattle.mask_records.specs.declared.Written.the-variants.{Upto, Refused}
 use Rattle.mask_records.specs.Bytes.{headOf, pairsOf}
@@ -32,10 +32,6 @@ pairs-all o at es i e h =
     e ∙ ap (λ (j : ℕ). paste o at (pairsOf es) j) k ∙ rw take-length
 
 -- ---- the whole
-spliced : {o p : List ℕ} {at : ℕ} {w : List ℕ} → at + length w ≤ length o → p ≡ splice o at w → Put o p at (at + length w) w
-unfolding placeOf bufferOf
-spliced {o} {p} {at} {w} h e = piece (rw (le-leb _ _ h), rw (le-leb _ _ h) e)
-
 module _ (sample : ℕ) (es out : List ℕ) (at : ℕ) where
   pub no-room : length out < at + sizeOf (length es) → (Refused Room, out) ≡ placedOf sample es out at
   unfolding placedOf
