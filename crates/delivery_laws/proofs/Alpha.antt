@@ -103,7 +103,7 @@ module _ (rate : Float) (p : T (fits binary32 rate)) (l : T (lawfulRate rate)) w
 
   exponent-small : Under exponent 11 4096
   unfolding ofBits neg
-  exponent-small = div-under binary64 (neg one) product 1 1 399 11 4096 (lit< tt) (lit< tt) (lit< tt, lit≤ tt, held binary64 1062 12 11 refl (lit< tt)) (lit≤ tt) (lit≤ tt) product-above
+  exponent-small = div-under binary64 (neg one) product 1 1 399 11 4096 (lit< tt) (lit< tt) (lit< tt, lit≤ tt, held binary64 false 1062 12 11 refl (lit< tt)) (lit≤ tt) (lit≤ tt) product-above
 
   exponent-fits : T (fits binary64 exponent)
   exponent-fits = div-fits binary64 (neg one) product

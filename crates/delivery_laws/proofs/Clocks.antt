@@ -43,7 +43,7 @@ pub record Clocked (k : Clock) : Type 0 where
 
 -- ---- the phase
 pub step-small : (hz rate : Float) → Upto hz 32 → Above rate 8000 → Under (div64 hz rate) 3 512
-step-small hz rate h a = div-under binary64 hz rate 32 1 8000 3 512 (lit< tt) (lit< tt) (lit< tt, lit≤ tt, held binary64 1065 9 3 refl (lit< tt)) (lit≤ tt) (whole hz h) a
+step-small hz rate h a = div-under binary64 hz rate 32 1 8000 3 512 (lit< tt) (lit< tt) (lit< tt, lit≤ tt, held binary64 false 1065 9 3 refl (lit< tt)) (lit≤ tt) (whole hz h) a
   where
     whole : (x : Float) → Upto x 32 → Under x 32 1
     whole nan u = u
@@ -71,7 +71,7 @@ next-phase : (phase step : Float) (k : ℕ) → k < 2 ^ 40 → Under phase (phas
 next-phase phase step k l p s =
     let more : phaseMost k + 3 ≡ phaseMost (k + 1) = omega arith in
     subst (λ (n : ℕ). Under (add64 phase step) n 512) more
-    (add-under binary64 phase step (phaseMost k) 3 512 (lit< tt, omega arith, held binary64 1065 9 (phaseMost k + 3) refl (omega arith)) p s)
+    (add-under binary64 phase step (phaseMost k) 3 512 (lit< tt, omega arith, held binary64 false 1065 9 (phaseMost k + 3) refl (omega arith)) p s)
 
 -- ---- the offset
 abbrev half : Float
@@ -110,10 +110,10 @@ module _ (offset phase alpha : Float) (k : ℕ) (l : k < 2 ^ 40) (p : T (le noug
   next-offset =
       let r = euclid-within binary64 apart one (ofBits-fits binary64 0x3ff0000000000000) apart-finite tt tt in
       let difference = sub64 (remEuclid binary64 apart one) half in
-      let moved = mul-under binary64 difference alpha 1 2 3 1024 3 2048 (lit< tt) (lit< tt, lit≤ tt, held binary64 1063 11 3 refl (lit< tt)) (lit≤ tt) (centred (remEuclid binary64 apart one) (r .0) (r .1)) a in
+      let moved = mul-under binary64 difference alpha 1 2 3 1024 3 2048 (lit< tt) (lit< tt, lit≤ tt, held binary64 false 1063 11 3 refl (lit< tt)) (lit≤ tt) (centred (remEuclid binary64 apart one) (r .0) (r .1)) a in
       let more : offsetMost k + 3 ≡ offsetMost (k + 1) = omega arith in
       subst (λ (n : ℕ). Under (add64 offset (mul64 difference alpha)) n 2048) more
-      (add-under binary64 offset (mul64 difference alpha) (offsetMost k) 3 2048 (lit< tt, omega arith, held binary64 1063 11 (offsetMost k + 3) refl (omega arith)) o moved)
+      (add-under binary64 offset (mul64 difference alpha) (offsetMost k) 3 2048 (lit< tt, omega arith, held binary64 false 1063 11 (offsetMost k + 3) refl (omega arith)) o moved)
 
 -- ---- a sample
 abbrev ticked : ℕ → Clock → Bool → Float → Float → Float → Clock

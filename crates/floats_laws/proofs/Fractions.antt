@@ -61,9 +61,9 @@ room : (f : Format) → prec f ≤ suc (emax f)
 room binary32 = lit≤ tt
 room binary64 = lit≤ tt
 
-pub held : (f : Format) (a j n : ℕ) → a + j ≡ low f → n < 2 ^ prec f → HasValue (round f false n (2 ^ j)) false n (2 ^ j)
-held f a j n e h =
-    round-exact f false n (2 ^ j) n a (pow-pos j) h
+pub held : (f : Format) (s : Bool) (a j n : ℕ) → a + j ≡ low f → n < 2 ^ prec f → HasValue (round f s n (2 ^ j)) s n (2 ^ j)
+held f s a j n e h =
+    round-exact f s n (2 ^ j) n a (pow-pos j) h
     (lt-of-lt-of-le (mul-lt-mul-of-pos-right h (pow-pos a))
     (subst (λ (z : ℕ). z ≤ 2 ^ (low f + suc (emax f))) (pow-add 2 (prec f) a) (pow-mono {i = prec f + a} {j = low f + suc (emax f)} (omega (arith, room f, e)))))
     (ap (λ (z : ℕ). n * 2 ^ z) (sym e) ∙ ap (λ (z : ℕ). n * z) (pow-add 2 a j) ∙ sym (mul-assoc n (2 ^ a) (2 ^ j)))

@@ -21,7 +21,7 @@ use Rattle.floats_laws.proofs.Rules.{key→le, le-left, le-right}
 use Rattle.floats_laws.proofs.Rising.{le-refl, lowest, highest, past-lowest, past-highest, neg-falls}
 
 -- ---- the two quotients
-one-more : (n d : ℕ) → (n + 1) * d ≡ n * d + d
+pub one-more : (n d : ℕ) → (n + 1) * d ≡ n * d + d
 one-more n d = add-mul n 1 d ∙ ap (λ (z : ℕ). n * d + z) (one-mul d)
 
 cuts : (a d : ℕ) → 0 < d → Cut a d (a / d)
@@ -39,7 +39,7 @@ less n p d x h k = le-of-suc-le-suc (let g : n < p + 1 = lt-of-mul-lt-mul-right 
 one-cut : (a d n p : ℕ) → Cut a d n → Cut a d p → n ≡ p
 one-cut a d n p h k = le-antisymm (less n p d a (h .0) (k .1)) (less p n d a (k .0) (h .1))
 
-lift-most : (a d n p : ℕ) → n * d < a + d → a ≤ p * d → n ≤ p
+pub lift-most : (a d n p : ℕ) → n * d < a + d → a ≤ p * d → n ≤ p
 lift-most a d n p h k = le-of-suc-le-suc (let g : n < p + 1 = lt-of-mul-lt-mul-right d (omega (arith, one-more p d)) in omega arith)
 
 one-lift : (a d n p : ℕ) → Lifted a d n → Lifted a d p → n ≡ p

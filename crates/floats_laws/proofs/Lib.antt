@@ -36,3 +36,5 @@ pub mod Fitting
 pub mod Fractions
 pub mod Between
 pub mod Level
+pub mod Eighths
+pub mod Floors
