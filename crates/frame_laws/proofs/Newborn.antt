@@ -19,7 +19,7 @@ use Rattle.lists.specs.Table.{table-at}
 use Rattle.floats.specs.Names.{f32, one}
 use Rattle.choices.specs.Choose.{clamp}
 use Rattle.floats_laws.proofs.Bounds.{add-mag, mul-mag}
-use Rattle.floats_laws.proofs.Choosing.{min-fits, clamp-least, clamp-fits}
+use Rattle.floats_laws.proofs.Choosing.{clamp-least, clamp-fits}
 use Rattle.floats_laws.proofs.Held.{clamp-mag}
 use Rattle.floats_laws.proofs.Mag.{Mag, mag-finite, within}
 use Rattle.floats_laws.proofs.Numbers.{mul-number}
@@ -36,6 +36,7 @@ use Rattle.octaves.specs.Octave.{registerOf}
 use Rattle.registers.specs.Register as register
 use Rattle.pitch_laws.proofs.Octaves.{WholeUpto, octave-whole}
 use Rattle.pitch_laws.proofs.Ranges.{strength-in}
+use Rattle.pitch_laws.proofs.Tops.{Top, rate-top}
 use Rattle.settings.specs.declared.Config.{Config}
 use Rattle.settings.specs.declared.Direction.{Direction}
 use Rattle.settings.specs.declared.Direction.the-variants.{Forward, Reverse, Alternate}
@@ -146,10 +147,10 @@ whole-mag nan w = w .is
 whole-mag (inf s) w = w .is
 whole-mag (fin s m e) w = le-trans (le-of-eq (sym (mul-one (m * up e)) ∙ w .is .1)) (mul-le-mul-right (down e) (w .most))
 
-module _ (index : ℕ) (hz maxHz : Float) (direction : Direction) (f : T (fits binary32 hz)) (h : T (lt nought hz)) (k : T (finite hz)) (g : T (fits binary32 maxHz)) where
+module _ (index : ℕ) (hz maxHz : Float) (direction : Direction) (f : T (fits binary32 hz)) (h : T (lt nought hz)) (k : T (finite hz)) (t : Top maxHz) where
   octave-mag : (shape : Shape) → Mag (registerBy shape index hz maxHz direction .octave) 256
   unfolding registerBy ofBits
-  octave-mag Sprinkle = whole-mag (registerOf index hz maxHz direction .octave) (octave-whole index hz maxHz direction f h k g)
+  octave-mag Sprinkle = whole-mag (registerOf index hz maxHz direction .octave) (octave-whole hz maxHz f h k (t .held) (t .from) index direction)
   octave-mag Cloud = lit≤ tt
 
   register-unit : (shape : Shape) → Unit (registerBy shape index hz maxHz direction .strength)
@@ -236,11 +237,11 @@ attack-fits Cloud c index floor = by-direction (c .direction)
     by-direction Alternate = either (λ (x : Float). T (fits binary32 x)) (eqb (index % 2) 0) (f32 0x3f000000) (f32 0x3f59999a) (ofBits-fits binary32 0x3f000000) (ofBits-fits binary32 0x3f59999a)
 
 -- ---- THE CLAIM
-module _ (c : Config) (w : Formed c) (hop : c .«hop_samples» ≤ maxHop) (index : ℕ) (v : Voice) (o : Voiced v) (rate : Float) (r : T (lawfulRate (rate32 rate))) (sample : ℕ) (weights : List Float) where
-  top-fits : T (fits binary32 (maxHzOf rate))
-  unfolding maxHzOf
-  top-fits = min-fits binary32 _ (f32 0x469c4000) (mul-fits binary32 _ _) (ofBits-fits binary32 0x469c4000)
+pub top-of : (rate : Float) → T (lawfulRate (rate32 rate)) → Top (maxHzOf rate)
+unfolding maxHzOf
+top-of rate r = rate-top (rate32 rate) r
 
+module _ (c : Config) (w : Formed c) (hop : c .«hop_samples» ≤ maxHop) (index : ℕ) (v : Voice) (o : Voiced v) (rate : Float) (r : T (lawfulRate (rate32 rate))) (sample : ℕ) (weights : List Float) where
   pub newborn-fair : Fair (newbornOf index v (mendedOf c) rate sample weights)
   unfolding newbornOf strengthOf envelopeOf ofBits
   newborn-fair =
@@ -250,7 +251,7 @@ module _ (c : Config) (w : Formed c) (hop : c .«hop_samples» ≤ maxHop) (inde
       record {
         timed =
             record {
-              strength = product-unit (product-unit (o .strength) (register-unit index hz (maxHzOf rate) (d .direction) (o .hz-fits) (o .hz-above) (o .hz-finite) top-fits (d .shape))) (opening-unit (d .shape) index);
+              strength = product-unit (product-unit (o .strength) (register-unit index hz (maxHzOf rate) (d .direction) (o .hz-fits) (o .hz-above) (o .hz-finite) (top-of rate r) (d .shape))) (opening-unit (d .shape) index);
               attack-fits = attack-fits (d .shape) d index _;
               attack-above = e .part .0;
               attack-below = e .part .1;
@@ -262,7 +263,7 @@ module _ (c : Config) (w : Formed c) (hop : c .«hop_samples» ≤ maxHop) (inde
               hz-fits = o .hz-fits;
               hz-above = o .hz-above;
               hz-finite = o .hz-finite;
-              octave = octave-mag index hz (maxHzOf rate) (d .direction) (o .hz-fits) (o .hz-above) (o .hz-finite) top-fits (d .shape);
+              octave = octave-mag index hz (maxHzOf rate) (d .direction) (o .hz-fits) (o .hz-above) (o .hz-finite) (top-of rate r) (d .shape);
               width-fits = width-fits (d .shape) (d .«size_octaves») index;
               width-above = wide-size (d .shape) c w index .0;
               width-finite = wide-size (d .shape) c w index .1;

@@ -1,12 +1,13 @@
--- Sprinkle's octave, line by line as the Rust's `sprinkle_register`, on words of 32 bits. Definitions only.
+-- Sprinkle's octave, line by line as the Rust's `sprinkle_register`, on words of 32 bits, without its guards: inside the limits the range begins at 20 Hz and holds 7 or 8 octaves, so
+-- they change no answer (`RegisterChoice.antt` of `promises`). Definitions only.
 use Prim.Native.Nat.{ℕ, zero, suc, _+_, _%_, _^_}
 use mathlib.Core.Bool.{Bool, true, false, cond}
-use lib.Dec.{eqb, ltb}
+use lib.Dec.{eqb}
 use lib.Ieee.{Float, binary32, toUnsigned, lt}
 use Rattle.lists.specs.Pick.{pick}
 use Rattle.lists.specs.Times.{times}
 use Rattle.floats.specs.Names.{f32, add32, sub32, mul32, div32, nil, half, one, asFloat}
-use Rattle.choices.specs.Choose.{max, min}
+use Rattle.choices.specs.Choose.{min}
 use Rattle.floats.specs.Whole.{floor, ceil}
 use Rattle.draws.specs.Draws.{randomOf}
 use Rattle.elementary.specs.Log2.{log2Of}
@@ -30,9 +31,9 @@ tiltOf upward position = cond upward (add32 half position) (sub32 (f32 0x3fc0000
 unfoldable pub lastOf : ℕ → ℕ
 lastOf count = (count + 4294967295) % 2 ^ 32
 
--- (count - 1).max(1) as f32
+-- (count - 1) as f32
 unfoldable pub spanOf : ℕ → Float
-spanOf count = pick (ltb 1 (lastOf count)) (asFloat (lastOf count)) (asFloat 1)
+spanOf count = asFloat (lastOf count)
 
 -- register_probability(root_log + first + i as f32) * tilt, with position = i as f32 / span and low = root_log + first
 unfoldable pub weightOf : Float → Float → Bool → ℕ → Float
@@ -51,12 +52,12 @@ chosenFrom weight last (suc n) i target = let left = sub32 target (weight i) in 
 unfoldable pub chosenOf : Float → Float → Bool → ℕ → Float → ℕ
 chosenOf low span upward count target = chosenFrom (weightOf low span upward) (lastOf count) count 0 target
 
--- first = (lower.log2() - root_log).ceil(); last = (upper.log2() - root_log).floor().max(first); count = (last - first + 1.0) as u32
-unfoldable pub firstOf : Float → Float → Float
-firstOf rootLog lower = ceil binary32 (sub32 (log2Of lower) rootLog)
+-- first = (PARTICLE_MIN_HZ.log2() - root_log).ceil(); last = (upper.log2() - root_log).floor(); count = (last - first + 1.0) as u32
+unfoldable pub firstOf : Float → Float
+firstOf rootLog = ceil binary32 (sub32 (log2Of minHz) rootLog)
 
 unfoldable pub octavesOf : Float → Float → Float → ℕ
-octavesOf rootLog first upper = toUnsigned 32 (add32 (sub32 (max (floor binary32 (sub32 (log2Of upper) rootLog)) first) first) one)
+octavesOf rootLog first upper = toUnsigned 32 (add32 (sub32 (floor binary32 (sub32 (log2Of upper) rootLog)) first) one)
 
 -- the octave chosen, with target = random(index, 2) * total
 unfoldable pub drawnOf : ℕ → Float → Bool → ℕ → ℕ
@@ -66,23 +67,19 @@ drawnOf index low upward count =
     chosenOf low span upward count target
 
 -- first + chosen as f32
-unfoldable pub octaveOf : ℕ → Float → Float → Float → Bool → Float
-octaveOf index rootLog lower upper upward =
-    let first = firstOf rootLog lower in
+unfoldable pub octaveOf : ℕ → Float → Float → Bool → Float
+octaveOf index rootLog upper upward =
+    let first = firstOf rootLog in
     let count = octavesOf rootLog first upper in
     add32 first (asFloat (drawnOf index (add32 rootLog first) upward count))
 
--- upper = SPRINKLE_MAX_HZ.min(max_hz.max(1.0)), lower = PARTICLE_MIN_HZ.min(upper * 0.5)
+-- upper = SPRINKLE_MAX_HZ.min(max_hz)
 unfoldable pub upperOf : Float → Float
-upperOf maxHz = min (f32 0x4582d014) (max maxHz one)
-
-unfoldable pub lowerOf : Float → Float
-lowerOf upper = min minHz (mul32 upper half)
+upperOf maxHz = min (f32 0x4582d014) maxHz
 
 -- (octave, register_strength(root_log + octave))
 unfoldable pub registerOf : ℕ → Float → Float → Direction → Register
 registerOf index rootHz maxHz direction =
-    let upper = upperOf maxHz in
     let rootLog = log2Of rootHz in
-    let o = octaveOf index rootLog (lowerOf upper) upper (upwardOf direction index) in
+    let o = octaveOf index rootLog (upperOf maxHz) (upwardOf direction index) in
     record { octave = o; strength = strengthOf (add32 rootLog o) }

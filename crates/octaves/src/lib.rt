@@ -32,23 +32,18 @@ fn tilt(upward: bool, position: f32) -> f32
     floats::pick32(upward, 0.5 + position, 1.5 - position)
 }
 
-// One less, which wraps: where there is no octave to choose from, the Rust's release build has
-// 2^32 - 1 here.
+// One less, which wraps: 6 or 7 inside the limits, and 2^32 - 1 where there is no octave.
 fn last(count: u32) -> u32
     ensures { λ r. ⌜ r ≡ lastOf count ⌝ }
 {
     std::num::wrapping_add_u32(count, 4294967295)
 }
 
-// The count of steps from the first octave to the last, 1 at least.
+// The count of steps from the first octave to the last.
 fn span(count: u32) -> f32
     ensures { λ r. ⌜ r ≡ spanOf count ⌝ }
 {
-    let n = last(count);
-    if n > 1 {
-        return std::num::nearest_u32_to_f32(n);
-    }
-    std::num::nearest_u32_to_f32(1)
+    std::num::nearest_u32_to_f32(last(count))
 }
 
 // How often the i-th octave is chosen; `low` is the logarithm of the first one's frequency.
@@ -98,11 +93,11 @@ fn log_of_upper(hz: f32) -> f32
     elementary::log2(hz)
 }
 
-// The lowest whole octave from the root that lies in the range.
-fn first(root_log: f32, lower: f32) -> f32
-    ensures { λ r. ⌜ r ≡ firstOf «root_log» lower ⌝ }
+// The lowest whole octave from the root that is at 20 Hz or above.
+fn first(root_log: f32) -> f32
+    ensures { λ r. ⌜ r ≡ firstOf «root_log» ⌝ }
 {
-    floats::ceil32(registers::log_of_lower(lower) - root_log)
+    floats::ceil32(registers::LOG_OF_MIN_HZ - root_log)
 }
 
 // Which of the octaves is drawn; `low` is the logarithm of the first one's frequency.
@@ -114,11 +109,12 @@ fn drawn(index: u64, low: f32, upward: bool, count: u32) -> u32
     chosen(low, span, upward, count, target)
 }
 
-fn octave(index: u64, root_log: f32, lower: f32, upper: f32, upward: bool) -> f32
-    ensures { λ r. ⌜ r ≡ octaveOf index «root_log» lower upper upward ⌝ }
+// Inside the limits the count is 7 or 8, for every root above 0 and finite.
+fn octave(index: u64, root_log: f32, upper: f32, upward: bool) -> f32
+    ensures { λ r. ⌜ r ≡ octaveOf index «root_log» upper upward ⌝ }
 {
-    let first = first(root_log, lower);
-    let last = floats::max32(floats::floor32(log_of_upper(upper) - root_log), first);
+    let first = first(root_log);
+    let last = floats::floor32(log_of_upper(upper) - root_log);
     let count = floats::f32_to_u32(last - first + 1.0);
     let chosen = drawn(index, root_log + first, upward, count);
     first + std::num::nearest_u32_to_f32(chosen)
@@ -128,10 +124,9 @@ pub fn sprinkle_register(index: u64, root_hz: f32, max_hz: f32, direction: Direc
     ensures { λ r. ⌜ r ≡ registerOf index «root_hz» «max_hz» direction ⌝ }
 {
     let upward = upward(direction, index);
-    let upper = floats::min32(SPRINKLE_MAX_HZ, floats::max32(max_hz, 1.0));
-    let lower = floats::min32(registers::PARTICLE_MIN_HZ, upper * 0.5);
+    let upper = floats::min32(SPRINKLE_MAX_HZ, max_hz);
     let root_log = elementary::log2(root_hz);
-    let octave = octave(index, root_log, lower, upper, upward);
+    let octave = octave(index, root_log, upper, upward);
     Register {
         octave,
         strength: registers::register_strength(root_log + octave),

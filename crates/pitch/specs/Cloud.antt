@@ -1,26 +1,18 @@
--- The free Cloud's frequency, line by line as the Rust's `free_cloud_frequency`. Definitions only.
+-- The free Cloud's frequency, line by line as the Rust's `free_cloud_frequency`, without its guards: inside the limits the range begins at 20 Hz and goes on past the ramp, so they
+-- change no answer (`RegisterChoice.antt` of `promises`). Definitions only.
 use Prim.Native.Nat.{ℕ}
 use lib.Ieee.{Float, le}
 use Rattle.lists.specs.Pick.{pick}
-use Rattle.floats.specs.Names.{f32, add32, sub32, mul32, div32, nil, half, one, two}
-use Rattle.choices.specs.Choose.{max, min}
+use Rattle.floats.specs.Names.{add32, sub32, mul32, div32, half, one, two}
 use Rattle.draws.specs.Draws.{randomOf}
 use Rattle.elementary.specs.Log2.{log2Of}
 use Rattle.powers.specs.Power.{exp2}
 use Rattle.elementary.specs.Sqrt.{sqrtOf}
 use Rattle.registers.specs.Register.{minHz, fullHz, lowProbability}
 
--- f32::EPSILON
-abbrev pub epsilon : Float
-epsilon = f32 0x34000000
-
--- PARTICLE_MIN_HZ.min(max_hz * 0.5).log2()
-unfoldable pub lowerOf : Float → Float
-lowerOf maxHz = log2Of (min minHz (mul32 maxHz half))
-
--- (PARTICLE_FULL_OPENING_HZ.log2() - lower).max(f32::EPSILON)
+-- PARTICLE_FULL_OPENING_HZ.log2() - lower
 unfoldable pub rampOf : Float → Float
-rampOf lower = max (sub32 (log2Of fullHz) lower) epsilon
+rampOf lower = sub32 (log2Of fullHz) lower
 
 -- (1.0 - PARTICLE_LOW_PROBABILITY) / ramp
 unfoldable pub slopeOf : Float → Float
@@ -40,13 +32,13 @@ inRamp slope target =
 unfoldable pub offsetOf : Float → Float → Float → Float → Float
 offsetOf slope ramp mass target = pick (le target mass) (inRamp slope target) (sub32 (add32 ramp target) mass)
 
--- random(index, 1) * (ramp_mass + (span - ramp).max(0.0)), then (lower + offset).exp2()
+-- lower = PARTICLE_MIN_HZ.log2(); random(index, 1) * (ramp_mass + (span - ramp)), then (lower + offset).exp2()
 unfoldable pub frequencyOf : ℕ → Float → Float
 frequencyOf index maxHz =
-    let lower = lowerOf maxHz in
+    let lower = log2Of minHz in
     let span = sub32 (log2Of maxHz) lower in
     let ramp = rampOf lower in
     let slope = slopeOf ramp in
-    let mass = massOf slope (min span ramp) in
-    let target = mul32 (randomOf index 1) (add32 mass (max (sub32 span ramp) nil)) in
+    let mass = massOf slope ramp in
+    let target = mul32 (randomOf index 1) (add32 mass (sub32 span ramp)) in
     exp2 (add32 lower (offsetOf slope ramp mass target))

@@ -6,11 +6,11 @@ ghost use Rattle.pitch.specs.Cloud.{rampOf, slopeOf, massOf, inRamp, off
 // log2 of 440: what `elementary::log2` gives.
 const LOG_OF_FULL_OPENING_HZ: f32 = 8.78136;
 
-// Octaves from the lower end to 440 Hz, above 0 in any case.
+// Octaves from the lower end to 440 Hz.
 fn ramp(lower: f32) -> f32
     ensures { λ r. ⌜ r ≡ rampOf lower ⌝ }
 {
-    floats::max32(LOG_OF_FULL_OPENING_HZ - lower, 0.00000011920929)
+    LOG_OF_FULL_OPENING_HZ - lower
 }
 
 fn slope(ramp: f32) -> f32
@@ -19,7 +19,7 @@ fn slope(ramp: f32) -> f32
     (1.0 - registers::PARTICLE_LOW_PROBABILITY) / ramp
 }
 
-// What lies below the end of the ramp, or of the range where that is lower.
+// What lies below the end of the ramp.
 fn mass(slope: f32, end: f32) -> f32
     ensures { λ r. ⌜ r ≡ massOf slope end ⌝ }
 {
@@ -44,16 +44,17 @@ fn offset(slope: f32, ramp: f32, mass: f32, target: f32) -> f32
     ramp + target - mass
 }
 
+// Inside the limits the range, `span` octaves from 20 Hz, goes on past the ramp.
 pub fn free_cloud_frequency(index: u64, max_hz: f32) -> f32
     ensures { λ r. ⌜ r ≡ frequencyOf index «max_hz» ⌝ }
 {
-    let lower = registers::log_of_lower(floats::min32(registers::PARTICLE_MIN_HZ, max_hz * 0.5));
+    let lower = registers::LOG_OF_MIN_HZ;
     let span = elementary::log2(max_hz) - lower;
     let ramp = ramp(lower);
     let slope = slope(ramp);
-    let mass = mass(slope, floats::min32(span, ramp));
+    let mass = mass(slope, ramp);
     let draw = draws::random(index, draws::SOURCE);
-    let target = draw * (mass + floats::max32(span - ramp, 0.0));
+    let target = draw * (mass + (span - ramp));
     let offset = offset(slope, ramp, mass, target);
     elementary::exp2(lower + offset)
 }

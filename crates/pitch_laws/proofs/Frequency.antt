@@ -1,25 +1,21 @@
 -- The free Cloud's frequency, for an upper frequency from 4,000 to 20,000 Hz, is above 0 and finite. The lower end, the ramp and its mass are then constants.
 use Prim.Native.Nat.{ℕ}
-use mathlib.Core.Path.{_≡_, refl, subst}
+use mathlib.Core.Path.{_≡_, subst}
 use mathlib.Core.Bool.{true, false, not}
 use lib.Count.{leadingZeros, trailingZeros}
 use lib.IntN.{pos, negsuc}
 use lib.Dec.{T, lit≤, lit<}
-use lib.Ieee.{Float, nan, inf, fin, binary32, binary64, fits, mul, isNan, lt, le, eq, round, sub, neg, ofInt, ofBits, ofFields, size, span, climb, units, odd}
-use lib.Ieee.Bits.{is-true, is-false, ofBits-fits}
-use lib.Ieee.Fits.{and-l, and-r, add-fits, sub-fits, mul-fits}
+use lib.Ieee.{Float, nan, inf, fin, binary32, binary64, fits, isNan, lt, le, eq, round, sub, neg, ofInt, ofBits, ofFields, size, span, climb, units, odd}
+use lib.Ieee.Bits.{is-true, ofBits-fits}
+use lib.Ieee.Fits.{add-fits, sub-fits}
 use lib.Ieee.Scale.{finite}
 use denote.Floats.{passes}
 use Rattle.lists.specs.Pick.{pick, by-case}
-use Rattle.floats.specs.Names.{f32, add32, sub32, mul32, nil, half, two}
-use Rattle.choices.specs.Choose.{max, min}
-use Rattle.floats_laws.proofs.Bounds.{add-mag, sub-mag, mul-mag, div-mag, max-mag}
-use Rattle.floats_laws.proofs.Choosing.{max-right, min-fits, min-right}
-use Rattle.floats_laws.proofs.Ends.{of-min, not-above}
+use Rattle.floats.specs.Names.{f32, add32, sub32, mul32, nil, two}
+use Rattle.floats_laws.proofs.Bounds.{add-mag, sub-mag, mul-mag, div-mag}
 use Rattle.floats_laws.proofs.Mag.{Mag, Upto, Least, le-upto, least-up, mag-le, mag-finite, mag-more, upto-mag}
-use Rattle.floats_laws.proofs.Numbers.{mul-number}
 use Rattle.floats_laws.proofs.Products.{product-from-zero}
-use Rattle.floats_laws.proofs.Rising.{nought, add-rises-right, mul-rises, neg-falls, sub-rises}
+use Rattle.floats_laws.proofs.Rising.{nought, add-rises-right, neg-falls, sub-rises}
 use Rattle.floats_laws.proofs.Rules.{add-number, between-finite, finite-number, le-left, le-right, le-trans, lt→le}
 use Rattle.floats_laws.proofs.Spans.{lt-le}
 use Rattle.draws.specs.Draws.{randomOf}
@@ -32,34 +28,21 @@ use Rattle.elementary_laws.proofs.PowerRises.{exp2-like}
 use Rattle.elementary_laws.proofs.PowerValues.{exp2-exact, power-fits}
 use Rattle.elementary_laws.proofs.RootRises.{lowest, lowest-root, highest-root, sqrt-fits, sqrt-window}
 use Rattle.settings.specs.Settings.{lawfulRate}
-use Rattle.registers.specs.Register.{minHz, lowProbability}
-use Rattle.pitch.specs.Cloud.{lowerOf, inRamp, offsetOf, frequencyOf}
-use Rattle.registers.proofs.Logs.{log-of-min}
-use Rattle.pitch_laws.proofs.Ramp.{leastHz, mostHz, low, ramp, slope, mass, halved, ramp-is, slope-is, mass-is, least-log, most-log, square-is, double-is, least-divisor, looked}
+use Rattle.registers.specs.Register.{lowProbability}
+use Rattle.pitch.specs.Cloud.{inRamp, offsetOf, frequencyOf}
+use Rattle.pitch_laws.proofs.Ramp.{low, ramp, slope, mass, low-is, ramp-is, slope-is, mass-is, least-log, most-log, least-rest, square-is, double-is, least-divisor, looked}
+use Rattle.pitch_laws.proofs.Tops.{leastHz, mostHz, highestOf, rate-top}
 
--- ---- the lower end and the span
-module _ (maxHz : Float) (f : T (fits binary32 maxHz)) (a : T (le leastHz maxHz)) (b : T (le maxHz mostHz)) where
-  hz-finite : T (finite maxHz)
-  hz-finite = between-finite binary32 leastHz maxHz mostHz (looked .ends-finite .0) (looked .ends-finite .1) a b
-
-  half-above : T (le minHz (mul32 maxHz half))
-  half-above =
-      le-trans binary32 minHz (f32 0x44fa0000) (mul32 maxHz half) (ofBits-fits binary32 0x41a00000) (ofBits-fits binary32 0x44fa0000) (mul-fits binary32 maxHz half) (looked .min-halved)
-      (subst (λ (z : Float). T (le z (mul32 maxHz half))) halved
-      (mul-rises binary32 leastHz maxHz half (looked .half-finite) (looked .half-from) a (mul-number binary32 leastHz half (looked .ends-finite .0) (looked .half-finite)) (mul-number binary32 maxHz half hz-finite (looked .half-finite))))
-
-  lower-is : lowerOf maxHz ≡ low
-  unfolding lowerOf min low
-  lower-is = rw (looked .min-number, not-above binary32 minHz (mul32 maxHz half) (ofBits-fits binary32 0x41a00000) (mul-fits binary32 maxHz half) half-above) log-of-min
-
-  abbrev octaves : Float
+-- ---- the range, in octaves, for an upper frequency from 4,000 Hz on
+module _ (maxHz : Float) (f : T (fits binary32 maxHz)) (a : T (le leastHz maxHz)) where
+  abbrev pub octaves : Float
   octaves = sub32 (log2Of maxHz) low
 
   less-low : (x : Float) → T (not (isNan x)) → T (not (isNan (sub32 x low)))
   unfolding sub
   less-low x h = add-number binary32 x (neg low) h (looked .low-turned)
 
-  octaves-from : T (le (f32 0x40f49a78) octaves)
+  pub octaves-from : T (le (f32 0x40f49a78) octaves)
   octaves-from =
       let h = log2-rises leastHz maxHz (ofBits-fits binary32 0x457a0000) f (looked .least-above) a in
       subst (λ (z : Float). T (le z octaves)) least-log (sub-rises binary32 (log2Of leastHz) (log2Of maxHz) low h (less-low (log2Of leastHz) (le-left (log2Of leastHz) (log2Of maxHz) h)) (less-low (log2Of maxHz) (le-right (log2Of leastHz) (log2Of maxHz) h)))
@@ -68,146 +51,141 @@ module _ (maxHz : Float) (f : T (fits binary32 maxHz)) (a : T (le leastHz maxHz)
   unfolding fits
   hz-above = lt-le binary32 nought leastHz maxHz tt (ofBits-fits binary32 0x457a0000) f (looked .least-above) a
 
-  octaves-to : T (le octaves (f32 0x411f73da))
-  octaves-to =
-      let h = log2-rises maxHz mostHz f (ofBits-fits binary32 0x469c4000) hz-above b in
-      subst (λ (z : Float). T (le octaves z)) most-log (sub-rises binary32 (log2Of maxHz) (log2Of mostHz) low h (less-low (log2Of maxHz) (le-left (log2Of maxHz) (log2Of mostHz) h)) (less-low (log2Of mostHz) (le-right (log2Of maxHz) (log2Of mostHz) h)))
-
-  octaves-mag : Mag octaves 10
-  unfolding fits ofBits ofFields odd
-  octaves-mag =
-      le-upto octaves (f32 0x411f73da) 10
-      (le-trans binary32 nought (f32 0x40f49a78) octaves tt (ofBits-fits binary32 0x40f49a78) (sub-fits binary32 (log2Of maxHz) low) (looked .span-from) octaves-from) octaves-to (lit≤ tt)
-
-  end-is : min octaves ramp ≡ ramp
-  unfolding min ramp
-  end-is =
-      rw (
-        is-false (isNan octaves) (le-right (f32 0x40f49a78) octaves octaves-from),
-        is-true (lt ramp octaves) (lt-le binary32 ramp (f32 0x40f49a78) octaves (ofBits-fits binary32 0x408eb3aa) (ofBits-fits binary32 0x40f49a78) (sub-fits binary32 (log2Of maxHz) low) (looked .ramp-below) octaves-from),
-      )
-
-  -- ---- the target
   abbrev rest : Float
-  rest = max (sub32 octaves ramp) nil
+  rest = sub32 octaves ramp
 
-  ramp-mag : Mag ramp 5
-  unfolding ramp ofBits ofFields odd
-  ramp-mag = lit≤ tt
+  less-ramp : (x : Float) → T (not (isNan x)) → T (not (isNan (sub32 x ramp)))
+  unfolding sub
+  less-ramp x u = add-number binary32 x (neg ramp) u (looked .ramp-turned)
 
-  past-ramp : Mag (sub32 octaves ramp) 15
-  past-ramp = sub-mag binary32 octaves ramp 10 5 (lit≤ tt) octaves-mag ramp-mag
+  -- the range goes on past the ramp
+  pub rest-from : T (le nil rest)
+  rest-from =
+      le-trans binary32 nil (f32 0x404bcd9c) rest (ofBits-fits binary32 0) (ofBits-fits binary32 0x404bcd9c) (sub-fits binary32 octaves ramp) (looked .rest-from)
+      (subst (λ (z : Float). T (le z rest)) least-rest (sub-rises binary32 (f32 0x40f49a78) octaves ramp octaves-from (less-ramp (f32 0x40f49a78) (le-left (f32 0x40f49a78) octaves octaves-from)) (less-ramp octaves (le-right (f32 0x40f49a78) octaves octaves-from))))
 
-  nil-mag : Mag nil 15
-  unfolding ofBits ofFields odd
-  nil-mag = lit≤ tt
+  -- ---- the target, where the upper frequency is at most 20,000 Hz
+  module _ (b : T (le maxHz mostHz)) where
+    octaves-to : T (le octaves (f32 0x411f73da))
+    octaves-to =
+        let h = log2-rises maxHz mostHz f (ofBits-fits binary32 0x469c4000) hz-above b in
+        subst (λ (z : Float). T (le octaves z)) most-log (sub-rises binary32 (log2Of maxHz) (log2Of mostHz) low h (less-low (log2Of maxHz) (le-left (log2Of maxHz) (log2Of mostHz) h)) (less-low (log2Of mostHz) (le-right (log2Of maxHz) (log2Of mostHz) h)))
 
-  rest-mag : Mag rest 15
-  rest-mag = max-mag (sub32 octaves ramp) nil 15 past-ramp nil-mag
+    octaves-mag : Mag octaves 10
+    unfolding fits ofBits ofFields odd
+    octaves-mag =
+        le-upto octaves (f32 0x411f73da) 10
+        (le-trans binary32 nought (f32 0x40f49a78) octaves tt (ofBits-fits binary32 0x40f49a78) (sub-fits binary32 (log2Of maxHz) low) (looked .span-from) octaves-from) octaves-to (lit≤ tt)
 
-  mass-upto : Upto mass 3
-  unfolding mass ofBits ofFields odd
-  mass-upto = lit≤ tt
+    ramp-mag : Mag ramp 5
+    unfolding ramp ofBits ofFields odd
+    ramp-mag = lit≤ tt
 
-  mass-mag : Mag mass 3
-  mass-mag = upto-mag mass 3 mass-upto
+    rest-mag : Mag rest 15
+    rest-mag = sub-mag binary32 octaves ramp 10 5 (lit≤ tt) octaves-mag ramp-mag
 
-  abbrev whole : Float
-  whole = add32 mass rest
+    mass-upto : Upto mass 3
+    unfolding mass ofBits ofFields odd
+    mass-upto = lit≤ tt
 
-  whole-mag : Mag whole 18
-  whole-mag = add-mag binary32 mass rest 3 15 (lit≤ tt) mass-mag rest-mag
+    mass-mag : Mag mass 3
+    mass-mag = upto-mag mass 3 mass-upto
 
-  whole-from : T (le nought whole)
-  unfolding fits mass
-  whole-from =
-      let n = finite-number binary32 mass (looked .mass-finite) in
-      let g = max-right binary32 (sub32 octaves ramp) nil (sub-fits binary32 octaves ramp) (ofBits-fits binary32 0) (finite-number binary32 (sub32 octaves ramp) (mag-finite (sub32 octaves ramp) 15 past-ramp)) (looked .nil-number) in
-      le-trans binary32 nought mass whole tt (ofBits-fits binary32 0x40241b6a) (add-fits binary32 mass rest) (looked .mass-from)
-      (subst (λ (z : Float). T (le z whole)) (looked .mass-alone) (add-rises-right binary32 mass nil rest g (add-number binary32 mass nil n (mag-finite nil 15 nil-mag)) (add-number binary32 mass rest n (mag-finite rest 15 rest-mag))))
+    abbrev whole : Float
+    whole = add32 mass rest
 
-  module _ (index : ℕ) where
-    abbrev draw : Float
-    draw = randomOf index 1
+    whole-mag : Mag whole 18
+    whole-mag = add-mag binary32 mass rest 3 15 (lit≤ tt) mass-mag rest-mag
 
-    draw-mag : Mag draw 1
-    draw-mag = let r = random-in index 1 in le-upto draw (fin false 1 (pos 0)) 1 (r .0) (lt→le draw (fin false 1 (pos 0)) (is-true (lt draw (fin false 1 (pos 0))) (r .1))) (lit≤ tt)
+    whole-from : T (le nought whole)
+    unfolding fits mass
+    whole-from =
+        let n = finite-number binary32 mass (looked .mass-finite) in
+        le-trans binary32 nought mass whole tt (ofBits-fits binary32 0x40241b6a) (add-fits binary32 mass rest) (looked .mass-from)
+        (subst (λ (z : Float). T (le z whole)) (looked .mass-alone) (add-rises-right binary32 mass nil rest rest-from (add-number binary32 mass nil n (looked .nil-finite)) (add-number binary32 mass rest n (mag-finite rest 15 rest-mag))))
 
-    abbrev target : Float
-    target = mul32 draw whole
+    module _ (index : ℕ) where
+      abbrev draw : Float
+      draw = randomOf index 1
 
-    target-mag : Mag target 18
-    target-mag = mul-mag binary32 draw whole 1 18 (lit≤ tt) draw-mag whole-mag
+      draw-mag : Mag draw 1
+      draw-mag = let r = random-in index 1 in le-upto draw (fin false 1 (pos 0)) 1 (r .0) (lt→le draw (fin false 1 (pos 0)) (is-true (lt draw (fin false 1 (pos 0))) (r .1))) (lit≤ tt)
 
-    target-from : T (le nought target)
-    target-from = product-from-zero binary32 draw whole (mag-finite draw 1 draw-mag) (mag-finite whole 18 whole-mag) (random-in index 1 .0) whole-from
+      abbrev target : Float
+      target = mul32 draw whole
 
-    -- ---- the offset, within the ramp
-    abbrev under : Float
-    under = add32 (f32 0x3cb851ec) (mul32 (f32 0x3ec32e8c) target)
+      target-mag : Mag target 18
+      target-mag = mul-mag binary32 draw whole 1 18 (lit≤ tt) draw-mag whole-mag
 
-    risen-mag : Mag (mul32 (f32 0x3ec32e8c) target) 18
-    unfolding ofBits ofFields odd
-    risen-mag = mul-mag binary32 (f32 0x3ec32e8c) target 1 18 (lit≤ tt) (lit≤ tt) target-mag
+      target-from : T (le nought target)
+      target-from = product-from-zero binary32 draw whole (mag-finite draw 1 draw-mag) (mag-finite whole 18 whole-mag) (random-in index 1 .0) whole-from
 
-    under-mag : Mag under 19
-    unfolding ofBits ofFields odd
-    under-mag = add-mag binary32 (f32 0x3cb851ec) (mul32 (f32 0x3ec32e8c) target) 1 18 (lit≤ tt) (lit≤ tt) risen-mag
+      -- ---- the offset, within the ramp
+      abbrev under : Float
+      under = add32 (f32 0x3cb851ec) (mul32 (f32 0x3ec32e8c) target)
 
-    under-from : T (le lowest under)
-    unfolding fits
-    under-from =
-        let n = finite-number binary32 (f32 0x3cb851ec) (looked .square-finite) in
-        let t = mag-finite target 18 target-mag in
-        let g = product-from-zero binary32 (f32 0x3ec32e8c) target (looked .double-finite) t (looked .double-from) target-from in
-        le-trans binary32 lowest (f32 0x3cb851ec) under tt (ofBits-fits binary32 0x3cb851ec) (add-fits binary32 (f32 0x3cb851ec) (mul32 (f32 0x3ec32e8c) target)) (looked .square-above)
-        (subst (λ (z : Float). T (le z under)) (looked .square-alone)
-        (add-rises-right binary32 (f32 0x3cb851ec) nought (mul32 (f32 0x3ec32e8c) target) g (add-number binary32 (f32 0x3cb851ec) nought n tt) (add-number binary32 (f32 0x3cb851ec) (mul32 (f32 0x3ec32e8c) target) n (mag-finite (mul32 (f32 0x3ec32e8c) target) 18 risen-mag))))
+      risen-mag : Mag (mul32 (f32 0x3ec32e8c) target) 18
+      unfolding ofBits ofFields odd
+      risen-mag = mul-mag binary32 (f32 0x3ec32e8c) target 1 18 (lit≤ tt) (lit≤ tt) target-mag
 
-    root-in : T (le lowest-root (sqrtOf under)) × T (le (sqrtOf under) highest-root)
-    root-in = sqrt-window under (add-fits binary32 (f32 0x3cb851ec) (mul32 (f32 0x3ec32e8c) target)) under-from (mag-le under 9 (pos 2) 19 (lit< tt) (lit≤ tt) under-mag)
+      under-mag : Mag under 19
+      unfolding ofBits ofFields odd
+      under-mag = add-mag binary32 (f32 0x3cb851ec) (mul32 (f32 0x3ec32e8c) target) 1 18 (lit≤ tt) (lit≤ tt) risen-mag
 
-    root-fits : T (fits binary32 (sqrtOf under))
-    root-fits = sqrt-fits under (add-fits binary32 (f32 0x3cb851ec) (mul32 (f32 0x3ec32e8c) target))
+      under-from : T (le lowest under)
+      unfolding fits
+      under-from =
+          let n = finite-number binary32 (f32 0x3cb851ec) (looked .square-finite) in
+          let t = mag-finite target 18 target-mag in
+          let g = product-from-zero binary32 (f32 0x3ec32e8c) target (looked .double-finite) t (looked .double-from) target-from in
+          le-trans binary32 lowest (f32 0x3cb851ec) under tt (ofBits-fits binary32 0x3cb851ec) (add-fits binary32 (f32 0x3cb851ec) (mul32 (f32 0x3ec32e8c) target)) (looked .square-above)
+          (subst (λ (z : Float). T (le z under)) (looked .square-alone)
+          (add-rises-right binary32 (f32 0x3cb851ec) nought (mul32 (f32 0x3ec32e8c) target) g (add-number binary32 (f32 0x3cb851ec) nought n tt) (add-number binary32 (f32 0x3cb851ec) (mul32 (f32 0x3ec32e8c) target) n (mag-finite (mul32 (f32 0x3ec32e8c) target) 18 risen-mag))))
 
-    root-mag : Mag (sqrtOf under) 6
-    unfolding fits le lt eq
-    root-mag = le-upto (sqrtOf under) highest-root 6 (le-trans binary32 nought lowest-root (sqrtOf under) tt tt root-fits tt (root-in .0)) (root-in .1) (lit≤ tt)
+      root-in : T (le lowest-root (sqrtOf under)) × T (le (sqrtOf under) highest-root)
+      root-in = sqrt-window under (add-fits binary32 (f32 0x3cb851ec) (mul32 (f32 0x3ec32e8c) target)) under-from (mag-le under 9 (pos 2) 19 (lit< tt) (lit≤ tt) under-mag)
 
-    abbrev divisor : Float
-    divisor = add32 lowProbability (sqrtOf under)
+      root-fits : T (fits binary32 (sqrtOf under))
+      root-fits = sqrt-fits under (add-fits binary32 (f32 0x3cb851ec) (mul32 (f32 0x3ec32e8c) target))
 
-    divisor-mag : Mag divisor 7
-    unfolding ofBits ofFields odd
-    divisor-mag = add-mag binary32 lowProbability (sqrtOf under) 1 6 (lit≤ tt) (lit≤ tt) root-mag
+      root-mag : Mag (sqrtOf under) 6
+      unfolding fits le lt eq
+      root-mag = le-upto (sqrtOf under) highest-root 6 (le-trans binary32 nought lowest-root (sqrtOf under) tt tt root-fits tt (root-in .0)) (root-in .1) (lit≤ tt)
 
-    divisor-least : Least divisor 5
-    unfolding ofBits ofFields odd
-    divisor-least =
-        let n = finite-number binary32 lowProbability (looked .probability-finite) in
-        least-up (f32 0x3e59999a) divisor 5 7
-        (subst (λ (z : Float). T (le z divisor)) least-divisor
-        (add-rises-right binary32 lowProbability lowest-root (sqrtOf under) (root-in .0) (add-number binary32 lowProbability lowest-root n tt) (add-number binary32 lowProbability (sqrtOf under) n (mag-finite (sqrtOf under) 6 root-mag))))
-        (lit≤ tt) divisor-mag
+      abbrev divisor : Float
+      divisor = add32 lowProbability (sqrtOf under)
 
-    in-ramp-mag : T (le target mass) → Mag (inRamp slope target) 30
-    unfolding inRamp ofBits ofFields odd
-    in-ramp-mag h =
-        rw (square-is, double-is)
-        (div-mag binary32 (mul32 two target) divisor 6 5 (lit≤ tt) (mul-mag binary32 two target 2 3 (lit≤ tt) (lit≤ tt) (le-upto target mass 3 target-from h mass-upto)) divisor-least)
+      divisor-mag : Mag divisor 7
+      unfolding ofBits ofFields odd
+      divisor-mag = add-mag binary32 lowProbability (sqrtOf under) 1 6 (lit≤ tt) (lit≤ tt) root-mag
 
-    offset-mag : Mag (offsetOf slope ramp mass target) 30
-    unfolding offsetOf pick
-    offset-mag =
-        by-case (le target mass) (λ q. rw q (in-ramp-mag (passes _ q)))
-        (λ q. rw q (mag-more (sub32 (add32 ramp target) mass) 26 30 (lit≤ tt) (sub-mag binary32 (add32 ramp target) mass 23 3 (lit≤ tt) (add-mag binary32 ramp target 5 18 (lit≤ tt) ramp-mag target-mag) mass-mag)))
+      divisor-least : Least divisor 5
+      unfolding ofBits ofFields odd
+      divisor-least =
+          let n = finite-number binary32 lowProbability (looked .probability-finite) in
+          least-up (f32 0x3e59999a) divisor 5 7
+          (subst (λ (z : Float). T (le z divisor)) least-divisor
+          (add-rises-right binary32 lowProbability lowest-root (sqrtOf under) (root-in .0) (add-number binary32 lowProbability lowest-root n tt) (add-number binary32 lowProbability (sqrtOf under) n (mag-finite (sqrtOf under) 6 root-mag))))
+          (lit≤ tt) divisor-mag
 
-    low-mag : Mag low 5
-    unfolding low ofBits ofFields odd
-    low-mag = lit≤ tt
+      in-ramp-mag : T (le target mass) → Mag (inRamp slope target) 30
+      unfolding inRamp ofBits ofFields odd
+      in-ramp-mag h =
+          rw (square-is, double-is)
+          (div-mag binary32 (mul32 two target) divisor 6 5 (lit≤ tt) (mul-mag binary32 two target 2 3 (lit≤ tt) (lit≤ tt) (le-upto target mass 3 target-from h mass-upto)) divisor-least)
 
-    pitch-mag : Mag (add32 low (offsetOf slope ramp mass target)) 35
-    pitch-mag = add-mag binary32 low (offsetOf slope ramp mass target) 5 30 (lit≤ tt) low-mag offset-mag
+      offset-mag : Mag (offsetOf slope ramp mass target) 30
+      unfolding offsetOf pick
+      offset-mag =
+          by-case (le target mass) (λ q. rw q (in-ramp-mag (passes _ q)))
+          (λ q. rw q (mag-more (sub32 (add32 ramp target) mass) 26 30 (lit≤ tt) (sub-mag binary32 (add32 ramp target) mass 23 3 (lit≤ tt) (add-mag binary32 ramp target 5 18 (lit≤ tt) ramp-mag target-mag) mass-mag)))
+
+      low-mag : Mag low 5
+      unfolding low ofBits ofFields odd
+      low-mag = lit≤ tt
+
+      pitch-mag : Mag (add32 low (offsetOf slope ramp mass target)) 35
+      pitch-mag = add-mag binary32 low (offsetOf slope ramp mass target) 5 30 (lit≤ tt) low-mag offset-mag
 
 -- ---- 2^x for x from -35 to 35
 from-minus : (x : Float) → T (fits binary32 x) → Mag x 35 → T (le (fin true 35 (pos 0)) x)
@@ -243,31 +221,9 @@ power-sounds x f h =
 pub frequency-sounds : (index : ℕ) (maxHz : Float) → T (fits binary32 maxHz) → T (le leastHz maxHz) → T (le maxHz mostHz) → Sounds (frequencyOf index maxHz)
 unfolding frequencyOf
 frequency-sounds index maxHz f a b =
-    rw (lower-is maxHz f a b, ramp-is, slope-is, end-is maxHz f a b, mass-is)
+    rw (low-is, ramp-is, slope-is, mass-is)
     (power-sounds (add32 low (offsetOf slope ramp mass (target maxHz f a b index))) (add-fits binary32 low (offsetOf slope ramp mass (target maxHz f a b index))) (pitch-mag maxHz f a b index))
 
--- ---- for a lawful sample rate: half of it, or 20,000 Hz where that is less
-abbrev pub highestOf : Float → Float
-highestOf rate = min (mul32 rate half) mostHz
-
-rate-halved : mul32 (f32 0x45fa0000) half ≡ leastHz
-unfolding mul round size span climb units odd trailingZeros leadingZeros ofBits ofFields
-rate-halved = refl
-
-ends : T (le leastHz mostHz) × T (finite (f32 0x45fa0000))
-unfolding le lt eq ofBits ofFields odd
-ends = (tt, tt)
-
-pub rate-sounds : (index : ℕ) (rate : Float) → T (fits binary32 rate) → T (lawfulRate rate) → Sounds (frequencyOf index (highestOf rate))
-unfolding lawfulRate
-rate-sounds index rate f h =
-    let u = and-l (finite rate) _ h in
-    let a = and-l (le (f32 0x45fa0000) rate) _ (and-r (finite rate) _ h) in
-    let v = looked .half-finite in
-    let g =
-    subst (λ (z : Float). T (le z (mul32 rate half))) rate-halved
-    (mul-rises binary32 (f32 0x45fa0000) rate half v (looked .half-from) a (mul-number binary32 (f32 0x45fa0000) half (ends .1) v) (mul-number binary32 rate half u v)) in
-    let p = mul-fits binary32 rate half in
-    let q = ofBits-fits binary32 0x469c4000 in
-    frequency-sounds index (highestOf rate) (min-fits binary32 (mul32 rate half) mostHz p q) (of-min (λ z. T (le leastHz z)) (mul32 rate half) mostHz g (ends .0))
-    (min-right binary32 (mul32 rate half) mostHz p q (mul-number binary32 rate half u v) (le-right leastHz mostHz (ends .0)))
+-- ---- for a lawful sample rate
+pub rate-sounds : (index : ℕ) (rate : Float) → T (lawfulRate rate) → Sounds (frequencyOf index (highestOf rate))
+rate-sounds index rate h = let t = rate-top rate h in frequency-sounds index (highestOf rate) (t .held) (t .from) (t .to)

@@ -1,6 +1,9 @@
 pub mod Ranges
 pub mod Picks
 pub mod Harmonics
+pub mod Tops
+pub mod Counts
 pub mod Octaves
 pub mod Ramp
 pub mod Frequency
+pub mod Unguarded

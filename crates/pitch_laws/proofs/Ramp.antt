@@ -1,12 +1,10 @@
--- The free Cloud's constants where the upper frequency is from 4,000 to 20,000 Hz: the lower end, the ramp, its slope and its mass, each computed.
+-- The free Cloud's constants: the lower end, the ramp, its slope and its mass, and what lies above them where the upper frequency is 4,000 or 20,000 Hz, each computed.
 use mathlib.Core.Path.{_≡_, refl}
-use mathlib.Core.Bool.{false, not}
 use lib.Count.{leadingZeros, trailingZeros}
 use lib.Dec.{T}
 use lib.Ieee.{Float, isNan, lt, le, eq, toBits, round, sum, add, sub, neg, mul, div, ofInt, ofBits, ofFields, size, span, climb, units, odd}
 use lib.Ieee.Scale.{finite}
 use Rattle.floats.specs.Names.{f32, add32, sub32, mul32, nil, half, two}
-use Rattle.choices.specs.Choose.{max}
 use Rattle.floats_laws.proofs.Rising.{nought}
 use Rattle.elementary.specs.Rung.{rungOf, digitsOf}
 use Rattle.parabolas.specs.Parabolas.{tops, topOf, slopes, slopeOf, bends, bendOf}
@@ -15,15 +13,10 @@ use Rattle.elementary_laws.proofs.RootRises.{lowest, lowest-root}
 use Rattle.registers.specs.Register.{minHz, lowProbability}
 use Rattle.pitch.specs.Cloud.{rampOf, massOf}
 use Rattle.pitch.specs.Cloud as cloud
-use Rattle.registers.proofs.Logs.{log-of-full}
+use Rattle.registers.proofs.Logs.{log-of-min, log-of-full}
+use Rattle.pitch_laws.proofs.Tops.{leastHz, mostHz}
 
--- 4,000 and 20,000 Hz; log2 of 20; log2 of 22; the ramp's slope and its mass
-abbrev pub leastHz : Float
-leastHz = f32 0x457a0000
-
-abbrev pub mostHz : Float
-mostHz = f32 0x469c4000
-
+-- log2 of 20; the ramp, which is log2 of 22, its slope and its mass
 unfoldable pub low : Float
 low = f32 0x408a4d3c
 
@@ -37,12 +30,16 @@ unfoldable pub mass : Float
 mass = f32 0x40241b6a
 
 -- ---- the constants, computed
+pub low-is : log2Of minHz ≡ low
+unfolding low
+low-is = log-of-min
+
 pub halved : mul32 leastHz half ≡ f32 0x44fa0000
 unfolding mul round size span climb units odd trailingZeros leadingZeros ofBits ofFields
 halved = refl
 
 pub ramp-is : rampOf low ≡ ramp
-unfolding low ramp rampOf max isNan lt sub add neg sum round size span climb units odd trailingZeros leadingZeros ofBits ofFields
+unfolding low ramp rampOf sub add neg sum round size span climb units odd trailingZeros leadingZeros ofBits ofFields
 ramp-is = rw log-of-full
 
 pub slope-is : cloud.slopeOf ramp ≡ slope
@@ -61,6 +58,10 @@ pub most-log : sub32 (log2Of mostHz) low ≡ f32 0x411f73da
 unfolding low log2Of logOf rungOf digitsOf joinedOf fractionOf cellOf fallOf topOf tops slopeOf slopes bendOf bends isNan lt eq sub add neg sum round size span climb units odd trailingZeros leadingZeros ofInt ofBits ofFields mul toBits
 most-log = refl
 
+pub least-rest : sub32 (f32 0x40f49a78) ramp ≡ f32 0x404bcd9c
+unfolding ramp sub add neg sum round size span climb units odd trailingZeros leadingZeros ofBits ofFields
+least-rest = refl
+
 pub square-is : mul32 lowProbability lowProbability ≡ f32 0x3cb851ec
 unfolding mul round size span climb units odd trailingZeros leadingZeros ofBits ofFields
 square-is = refl
@@ -75,20 +76,20 @@ least-divisor = refl
 
 -- what is known of them by looking
 pub record Looked : Type 0 where
-  pub min-number : isNan minHz ≡ false
   pub min-halved : T (le minHz (f32 0x44fa0000))
   pub half-finite : T (finite half)
   pub half-from : T (le nought half)
-  pub ends-finite : T (finite leastHz) × T (finite mostHz)
   pub least-above : T (lt nought leastHz)
+  pub least-itself : T (le leastHz leastHz)
   pub low-turned : T (finite (neg low))
   pub span-from : T (le nought (f32 0x40f49a78))
+  pub ramp-turned : T (finite (neg ramp))
+  pub rest-from : T (le nil (f32 0x404bcd9c))
   pub ramp-below : T (lt ramp (f32 0x40f49a78))
   pub mass-from : T (le nought mass)
   pub mass-finite : T (finite mass)
   pub mass-alone : add32 mass nil ≡ mass
-  pub nil-number : T (not (isNan nil))
-  pub nil-is : nil ≡ nought
+  pub nil-finite : T (finite nil)
   pub double-finite : T (finite (f32 0x3ec32e8c))
   pub double-from : T (le nought (f32 0x3ec32e8c))
   pub square-finite : T (finite (f32 0x3cb851ec))
@@ -100,20 +101,20 @@ pub looked : Looked
 unfolding low ramp mass isNan le lt eq neg add sum round size span climb units odd trailingZeros leadingZeros ofBits ofFields
 looked =
     record {
-      min-number = refl;
       min-halved = tt;
       half-finite = tt;
       half-from = tt;
-      ends-finite = (tt, tt);
       least-above = tt;
+      least-itself = tt;
       low-turned = tt;
       span-from = tt;
+      ramp-turned = tt;
+      rest-from = tt;
       ramp-below = tt;
       mass-from = tt;
       mass-finite = tt;
       mass-alone = refl;
-      nil-number = tt;
-      nil-is = refl;
+      nil-finite = tt;
       double-finite = tt;
       double-from = tt;
       square-finite = tt;

@@ -5,6 +5,7 @@ pub mod Lives
 pub mod Marked
 pub mod MaskFiles
 pub mod Quiet
+pub mod RegisterChoice
 pub mod RoundTrip
 pub mod ScriptFiles
 pub mod Stories

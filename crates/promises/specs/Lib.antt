@@ -4,5 +4,6 @@ pub mod EveryRun
 pub mod Life
 pub mod Marked
 pub mod MaskFiles
+pub mod RegisterChoice
 pub mod RoundTrip
 pub mod Runs

@@ -1,7 +1,6 @@
 // How a register counts by its height between 20 and 440 Hz, on a scale of octaves. Low ones are
 // weighed down, never cut off.
 ghost use mathlib.Core.Path.{_≡_};
-ghost use Rattle.elementary.specs.Log2.{log2Of};
 ghost use Rattle.registers.specs.Register.{heightOf, strengthOf, probabilityOf};
 
 // An audible range, so that low registers remain possible.
@@ -14,19 +13,9 @@ pub const PARTICLE_LOW_PROBABILITY: f32 = 0.15;
 pub const PARTICLE_FULL_OPENING_HZ: f32 = 440.0;
 
 // log2 of 20, and of 440 / 20 = 22: what `elementary::log2` gives.
-const LOG_OF_MIN_HZ: f32 = 4.321928;
+pub const LOG_OF_MIN_HZ: f32 = 4.321928;
 
 const LOG_OF_RANGE: f32 = 4.4594316;
-
-// log2 of the range's lower end, which is 20 Hz at every lawful rate.
-pub fn log_of_lower(hz: f32) -> f32
-    ensures { λ r. ⌜ r ≡ log2Of hz ⌝ }
-{
-    if floats::bits32(hz) == 0x41a0_0000 {
-        return LOG_OF_MIN_HZ;
-    }
-    elementary::log2(hz)
-}
 
 pub fn register_height(log_hz: f32) -> f32
     ensures { λ r. ⌜ r ≡ heightOf «log_hz» ⌝ }

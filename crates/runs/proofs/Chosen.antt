@@ -25,7 +25,7 @@ use Rattle.births.specs.Births.{newbornOf}
 use Rattle.tallies.specs.Tallies.{droppedOne, hashOf, bornOne}
 use Rattle.bearing.specs.Birth.{chosenFor, withLast, triedOne, newbornFor, admittedOf, attemptedOf, bornOf}
 use Rattle.lists.specs.Every.{Every, every-set, in-case}
-use Rattle.runs.proofs.Sound.{Sound, Held, Counted, Sounding, engine-newborn}
+use Rattle.runs.proofs.Sound.{Sound, Fit, Held, Counted, Sounding, engine-newborn}
 
 -- ---- the slot
 nth-most : (last i : ℕ) (ss : List Source) (n : ℕ) → nthFrom last i ss n ≤ i + length ss
@@ -157,6 +157,10 @@ born-attempts t index sample p = refl
 newborn-held : (e : Engine) (index slot : ℕ) → Sound e → slot ≤ 256 → Sounding (e .sources) slot → Held (e .clock .sample) (newbornFor e index slot)
 unfolding newbornFor newbornOf
 newborn-held e index slot s h o = (λ a. engine-newborn e index slot s h o, λ a. absurd (true≢false a))
+
+-- the particle of a birth, whether or not it finds a place
+pub birth-fit : (e : Engine) (index own : ℕ) → Sound e → Sounding (e .sources) own → Fit (e .clock .sample) (newbornFor e index (chosenFor e index own))
+birth-fit e index own s o = engine-newborn e index (chosenFor e index own) s (slot-most e index own s) (slot-sounding e index own s o)
 
 sound-admitted : (e : Engine) (index slot : ℕ) → Sound e → slot ≤ 256 → Sounding (e .sources) slot → Sound (admittedOf e index slot)
 unfolding admittedOf

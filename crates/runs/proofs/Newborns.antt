@@ -10,15 +10,15 @@ use lib.Ieee.Fits.{add-fits, mul-fits, div-fits}
 use lib.Ieee.Scale.{finite}
 use Rattle.floats.specs.Names.{f32}
 use Rattle.floats_laws.proofs.Rising.{nought}
-use Rattle.floats_laws.proofs.Choosing.{max-fits, min-fits, clamp-fits}
+use Rattle.floats_laws.proofs.Choosing.{max-fits, clamp-fits}
 use Rattle.octaves.specs.Octave.{registerOf, octaveOf}
 use Rattle.pitch_laws.proofs.Octaves.{WholeUpto, octave-whole}
+use Rattle.pitch_laws.proofs.Tops.{Top}
 use Rattle.settings.specs.declared.Config.{Config}
 use Rattle.settings.specs.declared.Direction.{Direction}
 use Rattle.settings.specs.declared.Shape.{Shape}
 use Rattle.settings.specs.declared.Shape.the-variants.{Sprinkle, Cloud}
 use Rattle.envelopes.specs.Envelope.{hopFloorOf, sprinkleOf, cloudOf, cloudLifetimeOf, rawOf, byShape, envelopeOf}
-use Rattle.voices.specs.Voices.{maxHzOf}
 use Rattle.births.specs.Births.{registerBy, powerBy}
 
 abbrev pub Power : ℕ → Type 0
@@ -29,15 +29,11 @@ unfolding powerBy
 shape-power Sprinkle = inr refl
 shape-power Cloud = inl refl
 
-pub top-fits : (rate : Float) → T (fits binary32 (maxHzOf rate))
-unfolding maxHzOf
-top-fits rate = min-fits binary32 _ (f32 0x469c4000) (mul-fits binary32 _ _) (ofBits-fits binary32 0x469c4000)
-
-pub shape-octave : (shape : Shape) (index : ℕ) (hz maxHz : Float) (direction : Direction) → T (fits binary32 hz) → T (lt nought hz) → T (finite hz) → T (fits binary32 maxHz)
+pub shape-octave : (shape : Shape) (index : ℕ) (hz maxHz : Float) (direction : Direction) → T (fits binary32 hz) → T (lt nought hz) → T (finite hz) → Top maxHz
     → WholeUpto 256 (registerBy shape index hz maxHz direction .octave)
 unfolding registerBy ofBits
-shape-octave Sprinkle index hz maxHz direction f h k g = octave-whole index hz maxHz direction f h k g
-shape-octave Cloud index hz maxHz direction f h k g = record { sign = false; n = 0; is = (refl, refl); most = zero-le }
+shape-octave Sprinkle index hz maxHz direction f h k t = octave-whole hz maxHz f h k (t .held) (t .from) index direction
+shape-octave Cloud index hz maxHz direction f h k t = record { sign = false; n = 0; is = (refl, refl); most = zero-le }
 
 pub octave-fits : (shape : Shape) (index : ℕ) (hz maxHz : Float) (direction : Direction) → T (fits binary32 (registerBy shape index hz maxHz direction .octave))
 unfolding registerBy registerOf octaveOf

@@ -30,7 +30,7 @@ use Rattle.settings_laws.proofs.Lifetimes as lifetimes
 use Rattle.settings_laws.proofs.Lifetimes.{ten, envelope-sound}
 use Rattle.sources.specs.declared.Source.{Source}
 use Rattle.sources.specs.Sources.{isEligible}
-use Rattle.frame_laws.proofs.Newborn.{Voiced, newborn-fair}
+use Rattle.frame_laws.proofs.Newborn.{Voiced, top-of, newborn-fair}
 use Rattle.frame_laws.proofs.Windowed.{Fair}
 use Rattle.floats_laws.proofs.Unit.{Unit}
 use Rattle.state.specs.declared.Engine.{Engine}
@@ -42,7 +42,7 @@ use Rattle.state.specs.Make.{preparedOf}
 use Rattle.lists.specs.Every.{Every, every-getD, in-case}
 use Rattle.floats_laws.proofs.Fitting.{own-convert}
 use Rattle.runs.specs.Acts.{Singles}
-use Rattle.runs.proofs.Newborns.{Power, shape-power, top-fits, shape-octave, octave-fits, lifetime-fits}
+use Rattle.runs.proofs.Newborns.{Power, shape-power, shape-octave, octave-fits, lifetime-fits}
 use Rattle.runs.proofs.Voices.{Formed, source-voiced, free-voiced}
 
 -- ---- the terms
@@ -160,6 +160,7 @@ newborn-fit index voice config rate sample weights s f l v o =
     let same = own-convert binary32 rate f in
     let e : envelopeOf config index (rate32 rate) ≡ envelopeOf (mendedOf (s .asked)) index rate = ap (λ (c : Config). envelopeOf c index (rate32 rate)) (s .is) ∙ ap (envelopeOf (mendedOf (s .asked)) index) same in
     let w = subst lifetimes.Sound (sym e) (envelope-sound (s .asked) index rate (both-formed (s .asked) (s .singles)) (s .hop) l) in
+    let r : T (lawfulRate (rate32 rate)) = subst (λ (x : Float). T (lawfulRate x)) (sym same) l in
     record {
       born = le-refl sample;
       retired = λ t r. absurd (true≢false (sym (ap isAt r)));
@@ -167,11 +168,11 @@ newborn-fit index voice config rate sample weights s f l v o =
       most = w .most;
       slot = v;
       harmonics = partials-harmonics _ _ _ _ _ _ _;
-      octave = shape-octave (config .shape) index (voice .«frequency_hz») (maxHzOf rate) (config .direction) (o .hz-fits) (o .hz-above) (o .hz-finite) (top-fits rate);
+      octave = shape-octave (config .shape) index (voice .«frequency_hz») (maxHzOf rate) (config .direction) (o .hz-fits) (o .hz-above) (o .hz-finite) (top-of rate r);
       octave-fits = octave-fits (config .shape) index (voice .«frequency_hz») (maxHzOf rate) (config .direction);
       lifetime-fits = fits-widens _ (lifetime-fits config index (rate32 rate));
       power = shape-power (config .shape);
-      fair = subst (λ (c : Config). Fair (newbornOf index voice c rate sample weights)) (sym (s .is)) (newborn-fair (s .asked) (both-formed (s .asked) (s .singles)) (s .hop) index voice o rate (subst (λ (x : Float). T (lawfulRate x)) (sym same) l) sample weights);
+      fair = subst (λ (c : Config). Fair (newbornOf index voice c rate sample weights)) (sym (s .is)) (newborn-fair (s .asked) (both-formed (s .asked) (s .singles)) (s .hop) index voice o rate r sample weights);
     }
 
 voice-slot : (e : Engine) (index slot : ℕ) → slot ≤ 256 → voiceFor e index slot .slot ≤ 256

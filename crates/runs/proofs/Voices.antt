@@ -26,7 +26,8 @@ use Rattle.powers.specs.Power.{lifted, mantissa, powerBits, power, exp2, pow8}
 use Rattle.elementary_laws.proofs.PowerRises.{pow8-like}
 use Rattle.elementary_laws.proofs.PowerValues.{power-fits}
 use Rattle.pitch.specs.Cloud.{frequencyOf}
-use Rattle.pitch_laws.proofs.Frequency.{highestOf, rate-sounds}
+use Rattle.pitch_laws.proofs.Frequency.{rate-sounds}
+use Rattle.pitch_laws.proofs.Tops.{highestOf}
 use Rattle.settings.specs.declared.Shape.{Shape}
 use Rattle.settings.specs.declared.Shape.the-variants.{Sprinkle, Cloud}
 use Rattle.settings.specs.Settings.{lawfulRate}
@@ -115,7 +116,7 @@ free-sounds : (shape : Shape) (index : ℕ) (phase rate : Float) → T (fits bin
 unfolding freeHzOf
 free-sounds Sprinkle index phase rate f l = root-sounds phase
 free-sounds Cloud index phase rate f l =
-    let s = subst (λ (m : Float). T (lt nought (frequencyOf index m)) × T (finite (frequencyOf index m))) (top-is rate f) (rate-sounds index rate f l) in
+    let s = subst (λ (m : Float). T (lt nought (frequencyOf index m)) × T (finite (frequencyOf index m))) (top-is rate f) (rate-sounds index rate l) in
     (cloud-fits index (maxHzOf rate), s .0, s .1)
 
 pub free-voiced : (shape : Shape) (index : ℕ) (phase rate : Float) → T (fits binary32 rate) → T (lawfulRate rate) → Voiced (freeVoiceOf shape index phase rate)

@@ -13,9 +13,6 @@ log-of-upper-requires c κs = search needs
 floor32-requires : tie.Need-floor32-requires
 floor32-requires c κs = search needs
 
-max32-requires : tie.Need-max32-requires
-max32-requires c κs = search needs
-
 f32-to-u32-requires : tie.Need-f32-to-u32-requires
 f32-to-u32-requires c κs = search needs
 
@@ -27,9 +24,9 @@ nearest-u32-to-f32-requires c κs = search needs
 
 returns : tie.Need-returns
 unfolding octaveOf octavesOf
-returns c = rw (c .nearest-u32-to-f32 .ensures, c .before .drawn .ensures, c .before .before .f32-to-u32 .ensures, c .before .before .before .max32 .ensures, c .before .before .before .before .floor32 .ensures, c .before .before .before .before .before .log-of-upper .ensures, c .before .before .before .before .before .before .first .ensures)
+returns c = rw (c .nearest-u32-to-f32 .ensures, c .before .drawn .ensures, c .before .before .f32-to-u32 .ensures, c .before .before .before .floor32 .ensures, c .before .before .before .before .log-of-upper .ensures, c .before .before .before .before .before .first .ensures)
 
 pub octave-spec : {M : Type 1} → statement M
 octave-spec =
     tie.close
-    (tie.spec first-requires log-of-upper-requires floor32-requires max32-requires f32-to-u32-requires drawn-requires nearest-u32-to-f32-requires returns)
+    (tie.spec first-requires log-of-upper-requires floor32-requires f32-to-u32-requires drawn-requires nearest-u32-to-f32-requires returns)

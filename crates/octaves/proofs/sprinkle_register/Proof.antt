@@ -1,5 +1,5 @@
 -- `sprinkle_register` meets its contract: the callees' answers, put together.
-use Rattle.octaves.specs.Octave.{upperOf, lowerOf, registerOf}
+use Rattle.octaves.specs.Octave.{upperOf, registerOf}
 use borrow.Author.Needs.{needs}
 use Rattle.octaves.proofs.sprinkle_register.Statement.{statement}
 use Rattle.octaves.proofs.sprinkle_register.Tie as tie
@@ -7,14 +7,8 @@ use Rattle.octaves.proofs.sprinkle_register.Tie as tie
 upward-requires : tie.Need-upward-requires
 upward-requires c κs = search needs
 
-max32-requires : tie.Need-max32-requires
-max32-requires c κs = search needs
-
 min32-requires : tie.Need-min32-requires
 min32-requires c κs = search needs
-
-min32-requires-2 : tie.Need-min32-requires-2
-min32-requires-2 c κs = search needs
 
 log2-requires : tie.Need-log2-requires
 log2-requires c κs = search needs
@@ -26,17 +20,15 @@ register-strength-requires : tie.Need-register-strength-requires
 register-strength-requires c κs = search needs
 
 returns : tie.Need-returns
-unfolding registerOf upperOf lowerOf
-returns c = rw (c .register-strength .ensures, c .before .octave .ensures, c .before .before .log2 .ensures, c .before .before .before .min322 .ensures, c .before .before .before .before .min32 .ensures, c .before .before .before .before .before .max32 .ensures, c .before .before .before .before .before .before .upward .ensures)
+unfolding registerOf upperOf
+returns c = rw (c .register-strength .ensures, c .before .octave .ensures, c .before .before .log2 .ensures, c .before .before .before .min32 .ensures, c .before .before .before .before .upward .ensures)
 
 pub sprinkle-register-spec : {M : Type 1} → statement M
 sprinkle-register-spec =
     tie.close
     (tie.spec
     upward-requires
-    max32-requires
     min32-requires
-    min32-requires-2
     log2-requires
     octave-requires
     register-strength-requires

@@ -1,16 +1,12 @@
 -- `ramp` meets its contract: the logarithm of 440 is computed once.
 use Rattle.registers.proofs.Logs.{log-of-full}
 use Rattle.pitch.specs.Cloud.{rampOf}
-use borrow.Author.Needs.{needs}
 use Rattle.pitch.proofs.cloud.ramp.Statement.{statement}
 use Rattle.pitch.proofs.cloud.ramp.Tie as tie
 
-max32-requires : tie.Need-max32-requires
-max32-requires c κs = search needs
-
 returns : tie.Need-returns
 unfolding rampOf
-returns c = rw log-of-full (c .max32 .ensures)
+returns c = rw log-of-full
 
 pub ramp-spec : {M : Type 1} → statement M
-ramp-spec = tie.close (tie.spec max32-requires returns)
+ramp-spec = tie.close (tie.spec returns)

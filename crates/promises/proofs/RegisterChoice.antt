@@ -1,0 +1,54 @@
+-- The choice of a register: the laws of `pitch_laws` at every lawful rate, and every birth of every run inside the limits.
+use Prim.Native.Nat.{ℕ}
+use mathlib.Core.Path.{sym, subst}
+use mathlib.Core.List.{List, [], _∷_, _++_}
+use lib.Dec.{T}
+use lib.Ieee.{Float, binary32, ofBits}
+use Rattle.floats_laws.proofs.Fitting.{own-convert}
+use Rattle.settings.specs.Settings.{lawfulRate}
+use Rattle.pitch_laws.proofs.Octaves.{octaves-few}
+use Rattle.pitch_laws.proofs.Tops.{Top, upper-past-40}
+use Rattle.pitch_laws.proofs.Unguarded.{ramp-past-epsilon, span-past-ramp, register-same, frequency-same}
+use Rattle.voices.specs.Voices.{maxHzOf}
+use Rattle.frame_laws.proofs.Newborn.{top-of}
+use Rattle.state.specs.declared.Engine.{Engine}
+use Rattle.runs.specs.Acts.{Act, birth, act, perform}
+use Rattle.runs.proofs.Sound.{Sound, Sounding}
+use Rattle.runs.proofs.Chosen.{birth-fit}
+use Rattle.runs.proofs.Moments.{AllMeant, sound-performed, meant-before}
+use Rattle.promises.specs.Life.{newborn}
+use Rattle.promises.specs.RegisterChoice.{Rate, Root, RegisterChoice}
+use Rattle.promises.proofs.Demand3.{history-meant, begins-sound}
+
+-- ---- a lawful rate
+top : (rate : Float) → Rate rate → Top (maxHzOf rate)
+top rate r = top-of rate (subst (λ (x : Float). T (lawfulRate x)) (sym (own-convert binary32 rate (r .0))) (r .1))
+
+-- ---- a birth
+meant-after : (e : Engine) (xs ys : List Act) → AllMeant e (xs ++ ys) → AllMeant (perform e xs) ys
+unfolding perform
+meant-after e [] ys m = m
+meant-after e (x ∷ xs) ys m = meant-after (act e x) xs ys (m .1)
+
+rooted : (e : Engine) (index own : ℕ) → Sound e → Sounding (e .sources) own → Root (newborn e index own .«frequency_hz»)
+unfolding ofBits
+rooted e index own s o = let p = birth-fit e index own s o .fair .pitched in (p .hz-fits, p .hz-above, p .hz-finite)
+
+-- THE PROMISE
+pub register-choice : RegisterChoice
+unfolding ofBits
+register-choice =
+    record {
+      octaves = λ rate root r h. let t = top rate r in octaves-few root (maxHzOf rate) (h .0) (h .1) (h .2) (t .held) (t .from);
+      top = λ rate r. let t = top rate r in upper-past-40 (maxHzOf rate) (t .held) (t .from);
+      ramp-above = ramp-past-epsilon;
+      span-above = λ rate r. let t = top rate r in span-past-ramp (maxHzOf rate) (t .held) (t .from);
+      highest = λ rate r. let t = top rate r in (t .held, t .from);
+      register = λ maxHz root h f index direction. sym (register-same maxHz (h .0) (h .1) root f index direction);
+      frequency = λ maxHz h index. sym (frequency-same maxHz (h .0) (h .1) index);
+      births = λ start b cs t before after index own split.
+          let s = begins-sound start b .0 in
+          let m = subst (AllMeant start) split (history-meant start cs t s) in
+          let now = sound-performed start before (meant-before start before (birth index own ∷ after) m) s in
+          ((now .made .single, now .made .lawful), rooted (perform start before) index own now (meant-after start before (birth index own ∷ after) m .0));
+    }
