@@ -10,7 +10,23 @@ fn word(x: f32) -> u64 {
     x.to_bits().into()
 }
 
-/// Index, root, top and direction: targets that meet a sum of weights.
+/// The highest frequency at a lawful rate, often at an end of what it may be, or of Sprinkle's range.
+fn highest(d: &mut Draws) -> f32 {
+    let low = d.between(4_000.0, 4_400.0);
+    let any = d.between(4_000.0, 20_000.0);
+    d.pick(&[4_000.0, 4_000.000_2, 4_186.01, 20_000.0, low, any])
+}
+
+/// Index and highest frequency.
+pub fn tops(base: u64) -> Vec<Vec<u64>> {
+    let mut d = Draws::new(base, "tops");
+    (0..200_000)
+        .map(|_| vec![d.word(), word(highest(&mut d))])
+        .collect()
+}
+
+/// Index, root, top and direction: targets that meet a sum of weights, and roots that lie whole
+/// octaves from an end of the range, or beside that, where the count of octaves changes.
 pub fn registers(base: u64) -> Vec<Vec<u64>> {
     let mut d = Draws::new(base, "registers");
     let mut list: Vec<Vec<u64>> = register::ties(&mut d, 2_000)
@@ -25,6 +41,13 @@ pub fn registers(base: u64) -> Vec<Vec<u64>> {
             word(20_000.0),
             u64::from(n % 3),
         ]);
+    }
+    for _ in 0..200_000 {
+        let top = highest(&mut d);
+        let end = d.pick(&[20.0, top.min(4_186.01)]);
+        let root_hz = end * 2_f32.powi(d.below(250) as i32 - 130);
+        let beside = root_hz.to_bits() + d.below(3) as u32 - 1;
+        list.push(vec![d.word(), beside.into(), word(top), d.below(3)]);
     }
     list
 }

@@ -8,7 +8,7 @@ use crate::original::open;
 use crate::ours::Choose;
 
 /// The same arguments, as words, for the Rust and for the port. The Rust answers nothing where it
-/// would panic: nothing is compared there.
+/// would panic, or where the port promises nothing: nothing is compared there.
 pub struct Probe {
     pub name: &'static str,
     pub edges: fn() -> Vec<Vec<u64>>,
@@ -150,10 +150,11 @@ probes! {
     register_height rk_probe_register_height(log_hz: f32) -> f32 => open::register_height(log_hz);
     register_strength rk_probe_register_strength(log_hz: f32) -> f32 => open::register_strength(log_hz);
     register_probability rk_probe_register_probability(log_hz: f32) -> f32 => open::register_probability(log_hz);
-    free_cloud_frequency rk_probe_free_cloud_frequency(index: u64, max_hz: f32) -> f32 => open::free_cloud_frequency(index, max_hz);
-    octave rk_probe_octave(index: u64, root_hz: f32, max_hz: f32, way: u32) -> f32, at exact::registers
+    free_cloud_frequency rk_probe_free_cloud_frequency(index: u64, max_hz: f32) -> f32, at exact::tops, if max_hz >= 4_000.0
+        => open::free_cloud_frequency(index, max_hz);
+    octave rk_probe_octave(index: u64, root_hz: f32, max_hz: f32, way: u32) -> f32, at exact::registers, if max_hz >= 4_000.0
         => open::sprinkle_register(index, root_hz, max_hz, way.min(2) as u8).0;
-    strength rk_probe_strength(index: u64, root_hz: f32, max_hz: f32, way: u32) -> f32, at exact::registers
+    strength rk_probe_strength(index: u64, root_hz: f32, max_hz: f32, way: u32) -> f32, at exact::registers, if max_hz >= 4_000.0
         => open::sprinkle_register(index, root_hz, max_hz, way.min(2) as u8).1;
     select_partials rk_probe_select_partials(index: u64, seed: u64, limit: u64, max_ratio: f32) -> u32, at exact::partials
         => packed(open::select_partials(index, weights(seed), limit as usize, max_ratio));
