@@ -66,6 +66,10 @@ lawful-rated rate p h =
       rate-above = lt-le binary32 nought lowest rate nought-fits (ofBits-fits binary32 0x45fa0000) p tt (and-l (le lowest rate) (le rate (f32 0x48bb8000)) (and-r (finite rate) bounds h));
     }
 
+pub top-of : (rate : Float) → T (lawfulRate (rate32 rate)) → Top (maxHzOf rate)
+unfolding maxHzOf
+top-of rate r = rate-top (rate32 rate) r
+
 one-above : T (lt nought (round binary32 false 1 1))
 unfolding lt round Ieee.units Ieee.odd Ieee.size Ieee.span Ieee.climb
 one-above = tt
@@ -237,10 +241,6 @@ attack-fits Cloud c index floor = by-direction (c .direction)
     by-direction Alternate = either (λ (x : Float). T (fits binary32 x)) (eqb (index % 2) 0) (f32 0x3f000000) (f32 0x3f59999a) (ofBits-fits binary32 0x3f000000) (ofBits-fits binary32 0x3f59999a)
 
 -- ---- THE CLAIM
-pub top-of : (rate : Float) → T (lawfulRate (rate32 rate)) → Top (maxHzOf rate)
-unfolding maxHzOf
-top-of rate r = rate-top (rate32 rate) r
-
 module _ (c : Config) (w : Formed c) (hop : c .«hop_samples» ≤ maxHop) (index : ℕ) (v : Voice) (o : Voiced v) (rate : Float) (r : T (lawfulRate (rate32 rate))) (sample : ℕ) (weights : List Float) where
   pub newborn-fair : Fair (newbornOf index v (mendedOf c) rate sample weights)
   unfolding newbornOf strengthOf envelopeOf ofBits

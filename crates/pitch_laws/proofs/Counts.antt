@@ -55,8 +55,7 @@ not-upon b D P N d k c h = ⊎-elim (λ g. absurd (h g)) (λ g. g) (le-or-lt _ _
 not-beneath : (b D P N d k c : ℕ) → (Beneath b D P N d k c → ⊥) → 8 * (k * d) * D + c * d * D + P * D * 8 < b * d * 8 + N * D * 8 + 8000 * d * D
 not-beneath b D P N d k c h = ⊎-elim (λ g. absurd (h g)) (λ g. g) (le-or-lt _ _)
 
--- Were the lower end above j - 1000 and the upper one below j - 993, they would be less than 7 apart; were it below j - 999 and an eighth, and the upper one above j - 991 less an
--- eighth, more than 7.75.
+-- A lower end above j - 1000 and an upper one below j - 993 would be less than 7 apart; a lower end below j - 999 + 1 / 8 and an upper one above j - 991 - 1 / 8, more than 7.75.
 too-few : (P N d j : ℕ) → (Upon 6273517 524288 P N d j 56 → ⊥) → (Beneath 2265935 524288 P N d j 0 → ⊥) → ⊥
 too-few P N d j h g = omega (arith, not-upon 6273517 524288 P N d j 56 h, not-beneath 2265935 524288 P N d j 0 g)
 

@@ -72,7 +72,7 @@ module _ (upper : Float) (f : T (fits binary32 upper)) (h : T (le leastHz upper)
   upper-log = mag-between binary32 (fin true 1 (pos 0)) logOf4186 (log2Of upper) 13 tt (log2-fits upper) (float-trans binary32 (fin true 1 (pos 0)) logOf4000 (log2Of upper) tt tt (log2-fits upper) tt upper-log-from) upper-log-to (lit≤ tt) (lit≤ tt)
 
   -- the octaves of a root
-  pub ranged : (rootHz : Float) → T (fits binary32 rootHz) → T (lt nought rootHz) → T (finite rootHz) → Range (log2Of rootHz) (log2Of upper)
+  ranged : (rootHz : Float) → T (fits binary32 rootHz) → T (lt nought rootHz) → T (finite rootHz) → Range (log2Of rootHz) (log2Of upper)
   ranged rootHz p q r = octaves-in-range (log2Of rootHz) (log2Of upper) (root-log rootHz p q r) upper-log upper-log-from upper-log-to
 
 -- ---- the walk stays within the octaves

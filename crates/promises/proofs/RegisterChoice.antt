@@ -1,7 +1,7 @@
 -- The choice of a register: the laws of `pitch_laws` at every lawful rate, and every birth of every run inside the limits.
 use Prim.Native.Nat.{ℕ}
 use mathlib.Core.Path.{sym, subst}
-use mathlib.Core.List.{List, [], _∷_, _++_}
+use mathlib.Core.List.{_∷_}
 use lib.Dec.{T}
 use lib.Ieee.{Float, binary32, ofBits}
 use Rattle.floats_laws.proofs.Fitting.{own-convert}
@@ -12,10 +12,10 @@ use Rattle.pitch_laws.proofs.Unguarded.{ramp-past-epsilon, span-past-ramp, regi
 use Rattle.voices.specs.Voices.{maxHzOf}
 use Rattle.frame_laws.proofs.Newborn.{top-of}
 use Rattle.state.specs.declared.Engine.{Engine}
-use Rattle.runs.specs.Acts.{Act, birth, act, perform}
+use Rattle.runs.specs.Acts.{birth, perform}
 use Rattle.runs.proofs.Sound.{Sound, Sounding}
 use Rattle.runs.proofs.Chosen.{birth-fit}
-use Rattle.runs.proofs.Moments.{AllMeant, sound-performed, meant-before}
+use Rattle.runs.proofs.Moments.{AllMeant, sound-performed, meant-before, meant-after}
 use Rattle.promises.specs.Life.{newborn}
 use Rattle.promises.specs.RegisterChoice.{Rate, Root, RegisterChoice}
 use Rattle.promises.proofs.Demand3.{history-meant, begins-sound}
@@ -25,11 +25,6 @@ top : (rate : Float) → Rate rate → Top (maxHzOf rate)
 top rate r = top-of rate (subst (λ (x : Float). T (lawfulRate x)) (sym (own-convert binary32 rate (r .0))) (r .1))
 
 -- ---- a birth
-meant-after : (e : Engine) (xs ys : List Act) → AllMeant e (xs ++ ys) → AllMeant (perform e xs) ys
-unfolding perform
-meant-after e [] ys m = m
-meant-after e (x ∷ xs) ys m = meant-after (act e x) xs ys (m .1)
-
 rooted : (e : Engine) (index own : ℕ) → Sound e → Sounding (e .sources) own → Root (newborn e index own .«frequency_hz»)
 unfolding ofBits
 rooted e index own s o = let p = birth-fit e index own s o .fair .pitched in (p .hz-fits, p .hz-above, p .hz-finite)
