@@ -17,6 +17,7 @@ use Rattle.floats_laws.proofs.Rules.{le-right, le-trans}
 use Rattle.settings.specs.Settings.{lawfulRate}
 use Rattle.octaves.specs.Octave.{upperOf}
 
+-- 4,000 and 20,000 Hz
 abbrev pub leastHz : Float
 leastHz = f32 0x457a0000
 

@@ -90,7 +90,7 @@ module _ (maxHz : Float) (f : T (fits binary32 maxHz)) (a : T (le leastHz maxHz)
   frequency-same index = rw (cloud-bottom, low-is, guarded-ramp, ramp-is, end-is, rest-is)
 
 -- ---- Sprinkle: the count of octaves
--- Of the logarithms of a root and of a top: the count is the same with its guard, and its last octave is past 1, which the other guard asks for.
+-- Of a root's logarithm and a top: the count is the same with its guard, and one less than it is above 1, so that the other guard says nothing.
 record Idle (rootLog upper : Float) : Type 0 where
   count : guarded.octavesOf rootLog (firstOf rootLog) upper ≡ octavesOf rootLog (firstOf rootLog) upper
   steps : 1 < lastOf (octavesOf rootLog (firstOf rootLog) upper)
