@@ -1,4 +1,4 @@
--- The free Cloud's frequency, for an upper frequency from 4,000 to 20,000 Hz, is above 0 and finite. The lower end, the ramp and its mass are then constants.
+-- The free Cloud's frequency, for an upper frequency from 4,000 to 20,000 Hz, is above 0 and finite. The lower end, the ramp and its mass are constants.
 use Prim.Native.Nat.{ℕ}
 use mathlib.Core.Path.{_≡_, subst}
 use mathlib.Core.Bool.{true, false, not}

@@ -2,20 +2,20 @@
 -- same, Sprinkle's for every root. A root that is not above 0, or not finite, has no octave either way.
 use Prim.Native.Nat.{ℕ, _<_}
 use native.Mathlib.Omega.{arith}
-use mathlib.Core.Path.{_≡_, refl, ap, _∙_, subst}
+use mathlib.Core.Path.{_≡_, refl, sym, ap, _∙_, subst}
 use mathlib.Core.Logic.{_⊎_, inl, inr, ⊎-elim}
 use mathlib.Core.Bool.{Bool, true, false, not}
 use borrow.Author.Tests.{lt-ltb}
 use lib.Count.{leadingZeros, trailingZeros}
-use lib.Dec.{T, lit<}
+use lib.Dec.{T, ltb, lit<}
 use lib.Ieee.{Float, nan, inf, fin, binary32, fits, isNan, lt, le, eq, round, sum, add, sub, neg, mul, toUnsigned, ofBits, ofFields, size, span, climb, units, odd}
 use lib.Ieee.Bits.{ofBits-fits}
 use lib.Ieee.Fits.{mul-fits, sub-fits, neg-fits}
 use lib.Ieee.Positive.{positive, positive-finite}
 use lib.Ieee.Scale.{finite}
-use Rattle.lists.specs.Pick.{pick, by-case}
+use Rattle.lists.specs.Pick.{picked, by-case}
 use Rattle.casts.proofs.Facts.{ne-self}
-use Rattle.floats.specs.Names.{f32, add32, sub32, mul32, nil, half, one}
+use Rattle.floats.specs.Names.{f32, add32, sub32, mul32, nil, half, one, asFloat}
 use Rattle.floats.specs.Whole.{floor, ceil}
 use Rattle.floats.proofs.Floor.{floor-fits, ceil-is}
 use Rattle.choices.specs.Choose.{max, min}
@@ -151,9 +151,13 @@ rooted x =
     (λ a. by-case (eq x nought) (λ z. inr (rw (n, a, z) tt)) (λ z. by-case (eq x (inf false)) (λ i. inr (rw (n, a, z, i) tt)) (λ i. inl (past-tests x (ne-self x ∙ n) a z i)))))
 
 -- ---- Sprinkle: the octave
+span-same : (count : ℕ) → 1 < lastOf count → guarded.spanOf count ≡ spanOf count
+unfolding guarded.spanOf spanOf
+span-same count h = sym (picked (ltb 1 (lastOf count)) (asFloat (lastOf count)) (asFloat 1) (lt-ltb 1 (lastOf count) h))
+
 drawn-same : (index : ℕ) (low : Float) (upward : Bool) (count : ℕ) → 1 < lastOf count → guarded.drawnOf index low upward count ≡ drawnOf index low upward count
-unfolding guarded.drawnOf drawnOf guarded.spanOf spanOf pick
-drawn-same index low upward count h = rw (lt-ltb 1 (lastOf count) h)
+unfolding guarded.drawnOf drawnOf
+drawn-same index low upward count h = rw (span-same count h)
 
 first-same : (rootLog : Float) → guarded.firstOf rootLog minHz ≡ firstOf rootLog
 unfolding guarded.firstOf firstOf
