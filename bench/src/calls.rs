@@ -12,6 +12,8 @@ pub enum Call {
     Advance(u32),
     Frame(f32),
     NoteInput(bool),
+    /// Of the original alone: the line of the frame before it, which a script works out, has the number.
+    ActiveCount,
 }
 
 /// Field by field as 01's table has them.
@@ -36,6 +38,7 @@ pub fn script(calls: &[Call]) -> Vec<u8> {
                 field(&mut bytes, 9, &value);
             }
             Call::NoteInput(present) => field(&mut bytes, 10, &[present.into()]),
+            Call::ActiveCount => {}
         }
     }
     bytes
@@ -87,7 +90,32 @@ pub fn original(calls: &[Call]) -> f32 {
             Call::Advance(samples) => engine.advance(samples as usize),
             Call::Frame(seconds) => activity = engine.frame(BIN_HZ, seconds).activity,
             Call::NoteInput(present) => engine.set_note_input_present(black_box(present)),
+            Call::ActiveCount => {
+                black_box(engine.active_count());
+            }
         }
     }
     activity
+}
+
+/// The original's `active_count` after each of so many triggers, if it is asked for: the sum of its
+/// answers.
+pub fn active_counts(events: u64, asked: bool) -> u64 {
+    let mut engine = Engine::new(RATE);
+    engine.set_source(
+        0,
+        Source {
+            frequency_hz: 440.0,
+            strength: 1.0,
+            eligible: true,
+        },
+    );
+    let mut sum = 0;
+    for _ in 0..events {
+        engine.trigger(0);
+        if asked {
+            sum += engine.active_count() as u64;
+        }
+    }
+    sum
 }

@@ -19,6 +19,7 @@ mod linked {
         pub fn rk_pow10(x: f32) -> f32;
         pub fn rk_sqrt(x: f32) -> f32;
         pub fn rk_probe_rem_euclid64(x: f64, m: f64) -> f64;
+        pub fn rk_probe_active_counts(events: u64, asked: bool) -> u64;
         pub fn rk_script(script: *const u8, length: usize, out: *mut u8, room: usize) -> u32;
         pub fn rk_write_rate(rate: f32, out: *mut u8, room: usize, at: *mut u64) -> u32;
         pub fn rk_write_configure(
@@ -134,6 +135,12 @@ pub mod particles {
 pub fn script(script: &[u8], out: &mut [u8]) -> u32 {
     // The slices are apart, and each pointer goes with its own length.
     unsafe { linked::rk_script(script.as_ptr(), script.len(), out.as_mut_ptr(), out.len()) }
+}
+
+/// The proved `active_count` after each of so many triggers, if it is asked for: the sum of its answers.
+pub fn active_counts(events: u64, asked: bool) -> u64 {
+    // It takes any numbers and has no state.
+    unsafe { linked::rk_probe_active_counts(events, asked) }
 }
 
 /// The proved mask call. It answers 01's number for any lengths.

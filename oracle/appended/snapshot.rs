@@ -1,4 +1,5 @@
-// The whole state by name. Every pattern names every field, so that none can be forgotten.
+// The whole state by name. Every pattern names every field, so that none can be forgotten. Among them is
+// what `active_count` answers: the port holds that number.
 fn snapshot(engine: &Engine, see: crate::engine::See) {
     use crate::value::Value::{Double, Flag, Maybe, Number, Single};
     let Engine {
@@ -55,6 +56,7 @@ fn snapshot(engine: &Engine, see: crate::engine::See) {
         ("births", Number(*births)),
         ("dropped", Number(*dropped)),
         ("decision_hash", Number(*decision_hash)),
+        ("active_count", Number(engine.active_count() as u64)),
         ("config.enabled", Flag(*enabled)),
         ("config.shape", Number(*shape as u64)),
         ("config.direction", Number(*direction as u64)),

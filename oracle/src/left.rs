@@ -9,8 +9,8 @@ use crate::port;
 use crate::runner::{run, Answer, SCRIPT_LIMIT};
 use crate::scripts::{short_too, UNTOUCHED};
 
-/// The bytes of a state, 8 for each of the original's values; and with those of a frame and an answer.
-const STATE_SIZE: usize = 8 * 1_772;
+/// The bytes of a state, 8 for each value; and with those of a frame and an answer.
+const STATE_SIZE: usize = 8 * 1_773;
 const FIELD_SIZE: usize = STATE_SIZE + SIZE + 1;
 
 /// The tags of a trigger and of a reserved one.
@@ -19,7 +19,7 @@ const TRIGGERS: [u8; 2] = [6, 13];
 /// What the port wants lent: a field takes three bytes or more.
 fn room_for(script: &[u8]) -> usize {
     match script.len() {
-        0..=SCRIPT_LIMIT => FIELD_SIZE / 3 * script.len(),
+        0..=SCRIPT_LIMIT => FIELD_SIZE.div_ceil(3) * script.len(),
         _ => FIELD_SIZE,
     }
 }

@@ -3,7 +3,7 @@
 //! hour.
 #[cfg(original)]
 mod measured {
-    use raknaduv_bench::calls::{original, script, Call};
+    use raknaduv_bench::calls::{active_counts, original, script, Call};
     use raknaduv_bench::particles::{Config, Shape};
     use std::hint::black_box;
     use std::time::Instant;
@@ -108,6 +108,28 @@ mod measured {
         difference(60, &format!("a sample {how}, {name}"), &less, &whole, count);
     }
 
+    /// `active_count` after a trigger: what it adds to the time of the triggers, nearly all of which
+    /// find the attempts used up.
+    fn asked() {
+        const EVENTS: u64 = 10_000;
+        let ours = raknaduv_bench::active_counts;
+        assert_eq!(ours(EVENTS, true), active_counts(EVENTS, true));
+        let added = |counts: fn(u64, bool) -> u64| {
+            let [with, without] = [true, false].map(|asked| {
+                least(200, || {
+                    black_box(counts(black_box(EVENTS), black_box(asked)));
+                })
+            });
+            (with - without) / EVENTS as f64
+        };
+        let (ours, theirs) = (added(ours), added(active_counts));
+        println!(
+            "{:34} {ours:10.1} ns, Rust {theirs:8.1} ns, ratio {:7.2}",
+            "active_count",
+            ours / theirs
+        );
+    }
+
     pub fn run(job: bool) {
         if job {
             let calls = [set(settings(true, Shape::Sprinkle, 32.0)), hops(3_300)].concat();
@@ -143,12 +165,24 @@ mod measured {
         let sprinkle = set(settings(true, Shape::Sprinkle, 1.0));
         let births: Vec<Call> = (0..64).map(|i| Call::Trigger(i % 16)).collect();
         row("a birth by a trigger", &sprinkle, &births, 64.0);
+        let full = [sprinkle.clone(), births].concat();
         row(
             "a frame with 64 particles",
-            &[sprinkle.clone(), births].concat(),
+            &full,
             &[Call::Frame(0.0)].repeat(200),
             200.0,
         );
+        asked();
+        // As a dashboard sees a script: a frame after every field, and the count at each.
+        let seen = [Call::NoteInput(false), Call::Frame(0.0), Call::ActiveCount];
+        for (held, before) in [(0, &sprinkle), (64, &full)] {
+            row(
+                &format!("a field and a frame, {held} held"),
+                before,
+                &seen.repeat(1_000),
+                1_000.0,
+            );
+        }
         row(
             "a field that does nothing",
             &sprinkle,

@@ -1,7 +1,6 @@
 // The engine's calls that deliver no sample and change no setting: a new engine, a reset one, and its
 // two counts.
 ghost use mathlib.Core.Path.{_≡_};
-ghost use Rattle.vacancies.specs.Vacancies.{activeCount};
 use state::Engine;
 
 mod make;
@@ -15,9 +14,9 @@ pub fn elapsed_samples(engine: Engine) -> u64
     engine.clock.sample
 }
 
+// The number that the engine holds, which births and frames keep true.
 pub fn active_count(engine: Engine) -> usize
-    ensures { λ r. ⌜ r ≡ activeCount (engine .particles) ⌝ }
+    ensures { λ r. ⌜ r ≡ engine .tally .held ⌝ }
 {
-    let particles = engine.particles;
-    vacancies::active_count(particles)
+    engine.tally.held
 }

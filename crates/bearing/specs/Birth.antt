@@ -34,7 +34,7 @@ withLast n slot =
 -- ---- the attempts
 -- self.attempts += 1
 abbrev pub triedOne : Tally → Tally
-triedOne t = record { attempts = grown (t .attempts); births = t .births; dropped = t .dropped; «decision_hash» = t .«decision_hash» }
+triedOne t = record { attempts = grown (t .attempts); births = t .births; dropped = t .dropped; «decision_hash» = t .«decision_hash»; held = t .held }
 
 -- ---- the new particle
 unfoldable pub voiceFor : Engine → ℕ → ℕ → Voice

@@ -1,7 +1,10 @@
 -- The call `frame` on the engine, line by line as the Rust's, with 01's refusal. Definitions only.
+use Prim.Native.Nat.{ℕ}
 use mathlib.Core.List.{List, map}
 use lib.Ieee.{Float}
 use Rattle.lists.specs.Pick.{pick}
+use Rattle.lists.specs.Walk.{count}
+use Rattle.words.specs.Word.{difference}
 use Rattle.voices.specs.Voices.{maxHzOf}
 use Rattle.state.specs.declared.Engine.{Engine}
 use Rattle.state.specs.declared.Tally.{Tally}
@@ -12,7 +15,7 @@ use Rattle.refusals.specs.declared.Refusal.the-variants.{Seconds}
 use Rattle.windows.specs.declared.Window.{Window}
 use Rattle.windows.specs.Opening.{emptyFrame}
 use Rattle.frame.specs.declared.Framed.{Framed}
-use Rattle.places.specs.Freed.{sweepOne}
+use Rattle.places.specs.Freed.{isFreed, sweepOne}
 use Rattle.places.specs.Shown.{shownOf}
 use Rattle.partials.specs.Windows.{windowsOf}
 use Rattle.frame.specs.Frame.{activityOf, accepted}
@@ -21,6 +24,10 @@ use Rattle.frame.specs.Frame.{activityOf, accepted}
 unfoldable pub heldOf : Engine → List Particle
 heldOf e = map (sweepOne (e .clock .sample) (e .prepared .«sample_rate»)) (e .particles)
 
+-- how many that is
+unfoldable pub freedOf : Engine → ℕ
+freedOf e = count (isFreed (e .clock .sample) (e .prepared .«sample_rate»)) (e .particles)
+
 -- frame.windows, of the places that are still held
 unfoldable pub windowsBy : Engine → Float → List Window
 windowsBy e binHz =
@@ -28,9 +35,16 @@ windowsBy e binHz =
     windowsOf (e .prepared .«partial_logs») binHz (maxHzOf rate) (map (shownOf (e .clock .sample) rate) (heldOf e))
 
 -- ---- the engine after it
--- self.attempts = 0;
-abbrev pub renewedTally : Tally → Tally
-renewedTally t = record { attempts = 0; births = t .births; dropped = t .dropped; «decision_hash» = t .«decision_hash» }
+-- self.attempts = 0; and so many places fewer are held
+abbrev pub renewedTally : Tally → ℕ → Tally
+renewedTally t freed =
+    record {
+      attempts = 0;
+      births = t .births;
+      dropped = t .dropped;
+      «decision_hash» = t .«decision_hash»;
+      held = difference (t .held) freed;
+    }
 
 -- self.activity = ..;
 abbrev pub withActivity : Engine → Float → Engine
@@ -48,14 +62,14 @@ withActivity e x =
       activity = x;
     }
 
-unfoldable pub renewedOf : Engine → List Particle → Float → Engine
-renewedOf e held activity = withTally (withActivity (withParticles e held) activity) (renewedTally (e .tally))
+unfoldable pub renewedOf : Engine → List Particle → ℕ → Float → Engine
+renewedOf e held freed activity = withTally (withActivity (withParticles e held) activity) (renewedTally (e .tally) freed)
 
 -- ---- the call
 unfoldable pub takenOf : Engine → Float → Float → Framed
 takenOf e binHz seconds =
     let activity = activityOf (e .activity) (e .config .enabled) seconds in
-    record { answer = Taken; frame = record { windows = windowsBy e binHz; activity = activity }; engine = renewedOf e (heldOf e) activity }
+    record { answer = Taken; frame = record { windows = windowsBy e binHz; activity = activity }; engine = renewedOf e (heldOf e) (freedOf e) activity }
 
 -- refusal 7: the engine as it was, and an empty frame
 unfoldable pub refusedOf : Engine → Framed

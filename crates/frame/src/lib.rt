@@ -42,18 +42,21 @@ fn accepts(elapsed_seconds: f32) -> bool
     }
 }
 
-// The engine after a frame: the places that are still held, and the attempts renewed.
-fn renewed(engine: Engine, held: [Particle; 64], activity: f32) -> Engine
-    ensures { λ r. ⌜ r ≡ renewedOf engine held activity ⌝ }
+// The engine after a frame: the places that are still held, the number of those freed taken off, and the
+// attempts renewed.
+fn renewed(engine: Engine, held: [Particle; 64], freed: usize, activity: f32) -> Engine
+    ensures { λ r. ⌜ r ≡ renewedOf engine held freed activity ⌝ }
 {
+    let still = std::num::wrapping_sub_usize(engine.tally.held, freed);
     let mut out = engine;
     out.particles = held;
     out.activity = activity;
     out.tally.attempts = 0;
+    out.tally.held = still;
     out
 }
 
-// One pass over the places frees those that are due and works out what the particles in the others show.
+// One pass over the places frees and counts those that are due, and works out what the others show.
 // A place is stored only where it is freed, so that the others aren't copied; and the pass stands here,
 // where no call has to hand both arrays on.
 fn taken(engine: Engine, particles: [Particle; 64], bin_hz: f32, elapsed_seconds: f32) -> Framed
@@ -68,11 +71,13 @@ fn taken(engine: Engine, particles: [Particle; 64], bin_hz: f32, elapsed_seconds
     let nothing = places::nothing_shown();
     let mut held = particles;
     let mut shown = [nothing; 64];
+    let mut freed: usize = 0;
     for i in 0..64 {
         let p = held[i];
         if places::freed(p, sample, rate) {
             held[i] = free;
             shown[i] = nothing;
+            freed += 1;
         } else {
             shown[i] = places::show(p, sample, rate);
         }
@@ -80,7 +85,7 @@ fn taken(engine: Engine, particles: [Particle; 64], bin_hz: f32, elapsed_seconds
     let windows = partials::windows(shown, logs, bin_hz, voices::max_hz(rate));
     let activity = activity(engine.activity, config.enabled, elapsed_seconds);
     let frame = Frame { windows, activity };
-    let engine = renewed(engine, held, activity);
+    let engine = renewed(engine, held, freed, activity);
     Framed {
         answer: Answer::Taken,
         frame,

@@ -2,7 +2,6 @@
 use Prim.Native.Nat.{ℕ, _/_}
 use lib.Ieee.{Float, binary32, toBits, toUnsigned}
 use Rattle.words.specs.Word.{product}
-use Rattle.vacancies.specs.Vacancies.{activeCount}
 use Rattle.state.specs.declared.Engine.{Engine}
 use Rattle.frame_values.specs.declared.Values.{Values}
 
@@ -15,7 +14,7 @@ valuesOf e activity =
     record {
       sample = e .clock .sample;
       ms = millisecondsOf (e .clock .sample) (e .prepared .«sample_rate»);
-      active = activeCount (e .particles);
+      active = e .tally .held;
       births = e .tally .births;
       dropped = e .tally .dropped;
       hash = e .tally .«decision_hash»;

@@ -22,15 +22,16 @@ module _ {A B : Type 0} (f : A → A) (g : A → B) (d : A) (n : ℕ) (xs : List
   pass-none zs e l = record { held = mapped-none f n xs e; shown = copied-none (λ x. g (f x)) d n xs zs e l }
 
   module _ (i : ℕ) (ys : List A) (zs : List B) (m : Pass f g d n xs i ys zs) where
-    read : (o : A) → getD ys i o ≡ getD xs i o
-    read o = ap (λ (r : List A). getD r i o) (m .held .is) ∙ upto-at f i xs o
+    -- what a turn reads has not been changed
+    pub pass-read : (o : A) → getD ys i o ≡ getD xs i o
+    pass-read o = ap (λ (r : List A). getD r i o) (m .held .is) ∙ upto-at f i xs o
 
     -- a turn that stores what f makes of the element
     pub pass-changed : (o y : A) (z : B) → i < n → y ≡ f (getD ys i o) → z ≡ g y → Pass f g d n xs (i + 1) (set ys i y) (set zs i z)
     pass-changed o y z h p q =
         record {
           held = mapped-more (m .held) o y h p;
-          shown = copied-more (λ x. g (f x)) d n xs i zs (m .shown) o z h (q ∙ ap g p ∙ ap (λ (x : A). g (f x)) (read o));
+          shown = copied-more (λ x. g (f x)) d n xs i zs (m .shown) o z h (q ∙ ap g p ∙ ap (λ (x : A). g (f x)) (pass-read o));
         }
 
     -- a turn that leaves an element which f doesn't change

@@ -1,4 +1,4 @@
-// Single layers handed over on numbers, for the comparison with the Rust alone.
+// Single layers handed over on numbers, for the comparison with the Rust and the measurements alone.
 ghost use Rattle.draws.specs.Draws.{keyOf, mixOf, randomOf, streamOf};
 ghost use Rattle.choices.specs.Choose.{max, min, clamp, abs};
 ghost use Rattle.casts.specs.Convert.{convert};
@@ -24,9 +24,11 @@ use settings::Direction;
 use settings::Shape;
 use timing::SprinkleStream;
 
+mod counts;
 mod frames;
 mod records;
 
+pub use counts::rk_probe_active_counts;
 pub use frames::rk_probe_attenuation_db;
 pub use frames::rk_probe_bin_table;
 pub use frames::rk_probe_gains;

@@ -6,6 +6,7 @@ use Rattle.runs.specs.Acts.{perform, Call, actsOf, applied}
 use Rattle.runs.proofs.Sound.{Sound}
 use Rattle.runs.proofs.Performed.{calls-are-acts}
 use Rattle.runs.proofs.Moments.{AllMeant, sound-performed, meant-before, calls-meant}
+use Rattle.runs.proofs.Numbered.{numbered-performed}
 use Rattle.runs.proofs.Ranged.{Ranged, ranged-new, ranged-reset}
 use Rattle.runs.proofs.RangedMoments.{AllInside, ranged-performed, inside-append, inside-before, calls-inside}
 use Rattle.runs.proofs.Weighed.{Weighed, weighed-new, weighed-reset, weighed-applied}
@@ -13,6 +14,7 @@ use Rattle.runs.proofs.Lawful.{lawful, own-weights}
 use Rattle.promises.specs.Runs.{run, history, AllTyped, Begins, new, reset}
 use Rattle.promises.specs.EveryRun.{EveryRun}
 use Rattle.promises.proofs.Demand3.{run-is, history-meant, sound-run, begins-sound}
+use Rattle.promises.proofs.PlacesHeld.{begins-numbered, numbered-run}
 
 -- ---- a call
 module _ (e : Engine) (c : Call) (s : Sound e) where
@@ -50,13 +52,13 @@ every-run =
     record {
       lawful = λ start b cs t.
           let s = begins-sound start b .0 in
-          lawful (run start cs) (sound-run start cs t s) (ranged-run start cs t s (begins-ranged start b .0));
+          lawful (run start cs) (sound-run start cs t s) (ranged-run start cs t s (begins-ranged start b .0)) (numbered-run start cs (begins-numbered start b));
       lawful-within = λ start b cs t before after split.
           let s = begins-sound start b .0 in
           let g = begins-ranged start b .0 in
           let m = meant-before start before after (subst (AllMeant start) split (history-meant start cs t s)) in
           let i = inside-before start before after (subst (AllInside start) split (history-inside start cs t s g)) in
-          lawful (perform start before) (sound-performed start before m s) (ranged-performed start before i g);
+          lawful (perform start before) (sound-performed start before m s) (ranged-performed start before i g) (numbered-performed start before (begins-numbered start b));
       weighed = λ start b cs t.
           let s = begins-sound start b .0 in
           own-weights (run start cs) (sound-run start cs t s) (weighed-run start cs t s (begins-ranged start b .1));

@@ -4,6 +4,7 @@ pub mod EveryRun
 pub mod Lives
 pub mod Marked
 pub mod MaskFiles
+pub mod PlacesHeld
 pub mod Quiet
 pub mod RegisterChoice
 pub mod RoundTrip

@@ -4,6 +4,7 @@ pub mod EveryRun
 pub mod Life
 pub mod Marked
 pub mod MaskFiles
+pub mod PlacesHeld
 pub mod RegisterChoice
 pub mod RoundTrip
 pub mod Runs

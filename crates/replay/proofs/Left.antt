@@ -21,7 +21,7 @@ use Rattle.entry.proofs.FrameBytes.{frame-length}
 use Rattle.replay.specs.Replay.{afterOf, answerOf, leftBy, leftFrom, leftOf, handedCount, handedIn}
 
 -- what one field leaves
-field-length : (run : Run) (answer : ℕ) → length (joined (leftBy run answer)) ≡ 16485
+field-length : (run : Run) (answer : ℕ) → length (joined (leftBy run answer)) ≡ 16493
 unfolding leftBy
 field-length run answer = rw (length-append, length-append, state-length, frame-length)
 
@@ -59,7 +59,7 @@ module _ (start : ℕ) (script o₀ : List ℕ) (w₀ : ℕ) (whole out : List �
       g q u (rw fuel (rw (one-more start (length script + 2 - (n + 1)) run n d (rw eq at h)) at (seq first one)))
 
 -- a field takes three bytes or more
-from-size : (start f : ℕ) (run : Run) (n : ℕ) (s : List ℕ) → length (leftFrom start f run n s) ≤ 5495 * length s
+from-size : (start f : ℕ) (run : Run) (n : ℕ) (s : List ℕ) → length (leftFrom start f run n s) ≤ 5498 * length s
 unfolding leftFrom
 from-size start zero run n s = omega arith
 from-size start (suc f) run n s =
@@ -70,7 +70,7 @@ from-size start (suc f) run n s =
     rw (y, length-append)
     (omega (arith, field-length next (answerOf run n s), turn-taken run n s, turn-three run n s (eqb-false (t .taken) 0 y), length-drop (t .taken) s, from-size start f next (n + 1) (drop (t .taken) s))))
 
-size : (start : ℕ) (s : List ℕ) → length (leftOf start s) ≤ 5495 * length s
+size : (start : ℕ) (s : List ℕ) → length (leftOf start s) ≤ 5498 * length s
 unfolding leftOf
 size start s = from-size start (length s + 1) fresh 1 s
 
@@ -85,11 +85,11 @@ module _ (start : ℕ) (s o : List ℕ) where
   unfolding handedCount handedIn pick
   too-long h = (rw (lt-leb _ _ h), rw (lt-leb _ _ h))
 
-  pub no-room : length s ≤ 60000 → length o < 5495 * length s → (0 ≡ handedCount start s o) × (o ≡ handedIn start s o)
+  pub no-room : length s ≤ 60000 → length o < 5498 * length s → (0 ≡ handedCount start s o) × (o ≡ handedIn start s o)
   unfolding handedCount handedIn pick
   no-room h g = (rw (le-leb _ _ h, lt-leb _ _ g), rw (le-leb _ _ h, lt-leb _ _ g))
 
-  pub all-fields : {p : List ℕ} {r : ℕ} → length s ≤ 60000 → 5495 * length s ≤ length o → Put o p 0 r (leftFrom start (length s + 2 - 1) fresh 1 (drop 0 s)) → (r ≡ handedCount start s o) × (p ≡ handedIn start s o)
+  pub all-fields : {p : List ℕ} {r : ℕ} → length s ≤ 60000 → 5498 * length s ≤ length o → Put o p 0 r (leftFrom start (length s + 2 - 1) fresh 1 (drop 0 s)) → (r ≡ handedCount start s o) × (p ≡ handedIn start s o)
   unfolding handedCount handedIn pick
   all-fields {p} {r} h g put =
       let f = from-first put .fits (omega (arith, size start s)) in

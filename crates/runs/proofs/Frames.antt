@@ -19,7 +19,7 @@ use Rattle.places.specs.Freed.{sweepOne}
 use Rattle.places.specs.Shown.{shownOf}
 use Rattle.partials.specs.Windows.{windowOf}
 use Rattle.frame.specs.Frame.{accepted}
-use Rattle.frame.specs.Call.{heldOf, windowsBy, renewedOf, takenOf, refusedOf, framedOf}
+use Rattle.frame.specs.Call.{heldOf, freedOf, windowsBy, renewedOf, takenOf, refusedOf, framedOf}
 use Rattle.frame_laws.proofs.Background.{activity-unit}
 use Rattle.frame_laws.proofs.Newborn.{lawful-rated, engine-logs}
 use Rattle.frame_laws.proofs.Places.{window-of-place, free-shows-none}
@@ -50,7 +50,7 @@ unfolding heldOf
 all-places e s = length-map (e .particles) _ ∙ s .places
 
 -- ---- the engine
-pub sound-renewed : (e : Engine) (activity : Float) → Unit activity → Sound e → Sound (renewedOf e (heldOf e) activity)
+pub sound-renewed : (e : Engine) (activity : Float) → Unit activity → Sound e → Sound (renewedOf e (heldOf e) (freedOf e) activity)
 unfolding renewedOf
 sound-renewed e activity u s =
     record {

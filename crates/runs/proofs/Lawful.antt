@@ -1,4 +1,4 @@
--- A sound engine within its ranges is lawful: what `Sound` and `Ranged` come to, number by number.
+-- A sound engine within its ranges is lawful: what `Sound`, `Ranged` and `Numbered` come to, number by number.
 use Prim.Native.Nat.{ℕ, _≤_}
 use native.Mathlib.Omega.{arith}
 use mathlib.Core.Path.{_≡_, refl, sym, ap, _∙_, subst}
@@ -30,6 +30,7 @@ use Rattle.runs.specs.Lawful.{LawfulSettings, LawfulStream, LawfulPartic
 use Rattle.runs.specs.Acts.{Singles}
 use Rattle.runs.proofs.Sound.{Fit, Held, Settled, Sound}
 use Rattle.runs.proofs.Ranged.{Ranged}
+use Rattle.runs.proofs.Numbered.{Numbered}
 use Rattle.runs.proofs.Voices.{Formed}
 use Rattle.runs.proofs.Weighed.{Weighed}
 use Rattle.floats_laws.proofs.Level.{level}
@@ -124,9 +125,9 @@ at-place : (now : ℕ) (p : Particle) → Held now p → LawfulPlace now p
 at-place now p h = (λ a. particle now p (h .0 a), h .1)
 
 -- THE CLAIM
-pub lawful : (e : Engine) → Sound e → Ranged e → Lawful e
+pub lawful : (e : Engine) → Sound e → Ranged e → Numbered e → Lawful e
 unfolding ofBits
-lawful e s g =
+lawful e s g w =
     let most = g .opportunity in
     record {
       rate = (s .made .lawful, s .made .single);
@@ -153,6 +154,7 @@ lawful e s g =
       sources = every-imp Formed LawfulSource source (e .sources) (s .formed);
       places = s .places;
       particles = every-imp (Held (e .clock .sample)) (LawfulPlace (e .clock .sample)) (at-place (e .clock .sample)) (e .particles) (s .held);
+      held = w .number;
       prepared = s .made .is;
     }
 

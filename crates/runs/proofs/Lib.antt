@@ -5,6 +5,7 @@ pub mod Kept
 pub mod Lawful
 pub mod Moments
 pub mod Newborns
+pub mod Numbered
 pub mod Performed
 pub mod Ranged
 pub mod RangedMoments

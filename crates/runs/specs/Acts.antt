@@ -34,7 +34,7 @@ use Rattle.changes.specs.Changes.{retiredAll, sameKind, reweighed, switched, of
 use Rattle.source_calls.specs.Slots.{withSource, setSourceOf, retireSourceOf, releaseSourceOf}
 use Rattle.triggers.specs.Triggers.{withIndex, isPermitted, reservedOf, triggeredBy, triggeredOf}
 use Rattle.frame.specs.Frame.{activityOf, accepted}
-use Rattle.frame.specs.Call.{heldOf, renewedOf, framedOf}
+use Rattle.frame.specs.Call.{heldOf, freedOf, renewedOf, framedOf}
 
 -- ---- acts
 pub data Act : Type 0 where
@@ -60,7 +60,7 @@ act e (birth index own) = bornOf e index own
 act e retire = retiredAll e
 act e (retireBound slot) = withParticles e (map (retireBoundOne slot (e .clock .sample)) (e .particles))
 act e (retune slot hz) = withParticles e (map (retuneOne slot hz) (e .particles))
-act e (frame seconds) = renewedOf e (heldOf e) (activityOf (e .activity) (e .config .enabled) seconds)
+act e (frame seconds) = renewedOf e (heldOf e) (freedOf e) (activityOf (e .activity) (e .config .enabled) seconds)
 act e (source slot s) = withSource e slot s
 act e (streams ss) = withStreams e ss
 act e (next n) = withNext e n

@@ -13,6 +13,7 @@ use Rattle.floats.specs.Names.{f64, nil, one}
 use Rattle.pool.specs.declared.Particle.{Particle}
 use Rattle.pool.specs.declared.Retired.the-variants.{At}
 use Rattle.pool.specs.Pool.{freeParticle}
+use Rattle.vacancies.specs.Vacancies.{activeCount}
 use Rattle.settings.specs.declared.Config.{Config}
 use Rattle.settings.specs.Settings.{maxHop, lawfulRate}
 use Rattle.mending.specs.Mending.{mendedOf}
@@ -84,5 +85,6 @@ pub record Lawful (e : Engine) : Type 0 where
   pub sources : Every LawfulSource (e .sources)
   pub places : length (e .particles) ≡ 64
   pub particles : Every (LawfulPlace (e .clock .sample)) (e .particles)
+  pub held : e .tally .held ≡ activeCount (e .particles)
   -- the tables that follow from the rate are the engine's
   pub prepared : e .prepared ≡ preparedOf (e .prepared .«sample_rate»)

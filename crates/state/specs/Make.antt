@@ -58,7 +58,7 @@ newOn p =
       next = record { opportunity = 0; «immediate_index» = 0; «last_source» = 256; «note_input_present» = false };
       streams = newOf 0 false ∷ newOf 1 false ∷ newOf 2 false ∷ [];
       «partial_weights» = p .«default_partial_weights»;
-      tally = record { attempts = 0; births = 0; dropped = 0; «decision_hash» = 0 };
+      tally = record { attempts = 0; births = 0; dropped = 0; «decision_hash» = 0; held = 0 };
       config = defaultConfig;
       activity = f32 0;
     }

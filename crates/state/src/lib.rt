@@ -37,12 +37,13 @@ pub struct Next {
     pub note_input_present: bool,
 }
 
-// Decisions only: no sound follows from the last three.
+// Decisions only, and how many places are held: no sound follows from the last four.
 pub struct Tally {
     pub attempts: u64,
     pub births: u64,
     pub dropped: u64,
     pub decision_hash: u64,
+    pub held: usize,
 }
 
 pub struct Engine {

@@ -77,6 +77,7 @@ pub fn from_prepared(prepared: Prepared) -> Engine
         births: 0,
         dropped: 0,
         decision_hash: 0,
+        held: 0,
     };
     Engine {
         particles: [free; 64],

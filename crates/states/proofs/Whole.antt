@@ -1,4 +1,4 @@
--- The state has 14,176 bytes, and what is written where they fit.
+-- The state has 14,184 bytes, and what is written where they fit.
 use Prim.Native.Nat.{ℕ, zero, suc, _+_, _*_, _≤_}
 use mathlib.Core.Path.{_≡_, refl, sym, _∙_}
 use mathlib.Core.List.{List}
@@ -41,7 +41,7 @@ module _ (e : Engine) where
   unfolding particlesBytes
   particles-length = joined-length _ 112 (λ i. words-length _) 0 64
 
-  pub state-length : length (stateBytes e) ≡ 14176
+  pub state-length : length (stateBytes e) ≡ 14184
   unfolding stateBytes
   state-length =
       rw (length-append, length-append, length-append, length-append, length-append, length-append, words-length, words-length, words-length, harmonics-length, streams-length, sources-length, particles-length)

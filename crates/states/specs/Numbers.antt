@@ -62,6 +62,7 @@ countsOf e =
     ∷ e .tally .births
     ∷ e .tally .dropped
     ∷ e .tally .«decision_hash»
+    ∷ e .tally .held
     ∷ []
 
 abbrev pub configOf : Config → List ℕ

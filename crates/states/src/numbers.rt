@@ -70,7 +70,7 @@ fn wide(x: u8) -> u64
     x as u64
 }
 
-pub fn counts(e: Engine) -> [u64; 12]
+pub fn counts(e: Engine) -> [u64; 13]
     ensures { λ r. ⌜ r ≡ countsOf e ⌝ }
 {
     [
@@ -86,6 +86,7 @@ pub fn counts(e: Engine) -> [u64; 12]
         e.tally.births,
         e.tally.dropped,
         e.tally.decision_hash,
+        e.tally.held as u64,
     ]
 }
 

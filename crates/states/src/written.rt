@@ -86,7 +86,7 @@ fn put_particles(out: &mut [u8], at: usize, particles: [Particle; 64]) -> usize
     at
 }
 
-// 1,772 numbers, in the order of `oracle state`.
+// 1,773 numbers, in the order of `oracle state`.
 pub fn put_engine(out: &mut [u8], at: usize, engine: Engine) -> usize
     ensures { λ r. ⌜ Put (now (out .entry)) (now (out .exit)) at r (stateBytes engine) ⌝ }
 {

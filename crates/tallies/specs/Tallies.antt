@@ -11,7 +11,7 @@ use Rattle.state.specs.State.{grown}
 
 -- self.dropped += 1
 abbrev pub droppedOne : Tally → Tally
-droppedOne t = record { attempts = t .attempts; births = t .births; dropped = grown (t .dropped); «decision_hash» = t .«decision_hash» }
+droppedOne t = record { attempts = t .attempts; births = t .births; dropped = grown (t .dropped); «decision_hash» = t .«decision_hash»; held = t .held }
 
 -- u64::from_le_bytes([p[0], p[1], p[2], 0, ..])
 unfoldable pub wordOf : ℕ → ℕ → ℕ → ℕ
@@ -23,7 +23,7 @@ hashOf before index sample p =
     let word = wordOf (getD (p .partials) 0 0) (getD (p .partials) 1 0) (getD (p .partials) 2 0) in
     mixOf (bitXor (bitXor (bitXor (bitXor before index) (rotated sample 19)) (toBits binary32 (p .«frequency_hz»))) word)
 
--- self.births += 1; self.decision_hash = ..
+-- self.births += 1; self.decision_hash = ..; one more place is held
 unfoldable pub bornOne : Tally → ℕ → ℕ → Particle → Tally
 bornOne t index sample p =
     record {
@@ -31,4 +31,5 @@ bornOne t index sample p =
       births = grown (t .births);
       dropped = t .dropped;
       «decision_hash» = hashOf (t .«decision_hash») index sample p;
+      held = grown (t .held);
     }

@@ -33,9 +33,11 @@ pub fn bear_one(tally: Tally, index: u64, sample: u64, p: Particle) -> Tally
     ensures { λ r. ⌜ r ≡ bornOne tally index sample p ⌝ }
 {
     let births = std::num::wrapping_add_u64(tally.births, 1);
+    let held = std::num::wrapping_add_usize(tally.held, 1);
     let decision_hash = hash(tally.decision_hash, index, sample, p);
     let mut out = tally;
     out.births = births;
     out.decision_hash = decision_hash;
+    out.held = held;
     out
 }

@@ -1,11 +1,15 @@
--- Words: a product by halves, and a rotation by two shifts.
+-- Words: a difference that wraps, a product by halves, and a rotation by two shifts.
 use Prim.Native.Nat.{ℕ, _+_, _-_, _*_, _/_, _%_, _^_, _≤_, _<_}
 use native.Mathlib.Nat.{le-of-lt, lt-of-le-of-lt, mul-le-mul-left, mul-lt-mul-of-pos-right, add-mod, add-mul, mul-add, mul-assoc, mul-comm, mul-left-comm, mul-one, mul-mod-left, mul-add-mod-self-right, div-add-mod', mod-eq-of-lt, div-eq-of-lt}
 use native.Mathlib.Omega.{arith}
 use mathlib.Core.Path.{_≡_, sym, ap, _∙_, subst, subst⁻¹}
 use lib.Bits.{bitOr, or-shifted}
 use lib.Pow.{pow-pos, pow-add, shl-shr, shr-lt, mod-pow-add}
-use Rattle.words.specs.Word.{rotated}
+use Rattle.words.specs.Word.{difference, rotated}
+
+-- the number that b added to wraps back to a
+pub difference-is : (a b r : ℕ) → b < 2 ^ 64 → r < 2 ^ 64 → (r + b) % 2 ^ 64 ≡ a → r ≡ difference a b
+difference-is a b r h l e = omega arith
 
 -- the product of numbers of j and k bits
 pub product-fits : (j k : ℕ) {a b : ℕ} → a < 2 ^ j → b < 2 ^ k → a * b < 2 ^ (j + k)

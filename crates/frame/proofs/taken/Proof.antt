@@ -1,24 +1,28 @@
--- `taken` meets its contract: one pass that frees in place and shows beside it, and the callees' answers,
--- put together.
+-- `taken` meets its contract: one pass that frees in place, counts what it frees and shows beside it, and
+-- the callees' answers, put together.
 use mathlib.Core.Path.{sym, ap, _∙_}
 use mathlib.Core.Logic.{⊎-elim}
-use Prim.Native.Nat.{_-_}
+use Prim.Native.Nat.{_-_, _≤_}
+use Rattle.lists.specs.Pick.{picked, passed}
+use Rattle.lists.specs.Walk.{Walked, counting, walked-none, walked-more, walked-all}
 use Rattle.pool.specs.Pool.{freeParticle}
-use Rattle.places.specs.Freed.{sweepOne}
+use Rattle.places.specs.Freed.{isFreed, sweepOne}
 use Rattle.places.specs.Shown.{shownOf}
-use Rattle.places.proofs.Pass.{Pass, pass-none, pass-changed, pass-kept, pass-held, pass-shown}
+use Rattle.places.proofs.Pass.{Pass, pass-none, pass-read, pass-changed, pass-kept, pass-held, pass-shown}
 use Rattle.places.proofs.Swept.{due-is-freed, other-stays, free-shows-nothing}
-use Rattle.frame.specs.Call.{heldOf, windowsBy, renewedOf, takenOf}
+use Rattle.frame.specs.Call.{heldOf, freedOf, windowsBy, renewedOf, takenOf}
 use borrow.Author.Needs.{needs}
 use Rattle.frame.proofs.taken.Statement.{statement}
 use Rattle.frame.proofs.taken.Tie as tie
 
 abbrev Inv-loop : tie.InvT-loop
-Inv-loop engine bin-hz elapsed-seconds config logs sample rate free nothing held₀ shown₀ i₀ held shown i =
+Inv-loop engine bin-hz elapsed-seconds config logs sample rate free nothing held₀ shown₀ freed₀ i₀ held shown freed i =
     Pass (sweepOne sample rate) (shownOf sample rate) freeParticle 64 held₀ i held shown
+    × Walked (counting (isFreed sample rate)) 64 held₀ 0 i freed
+    × (freed ≤ i)
 
 abbrev μ-loop : tie.MeasureT-loop
-μ-loop engine bin-hz elapsed-seconds config logs sample rate free nothing held₀ shown₀ i₀ held shown i =
+μ-loop engine bin-hz elapsed-seconds config logs sample rate free nothing held₀ shown₀ freed₀ i₀ held shown freed i =
     64 - i
 
 free-particle-requires : tie.Need-free-particle-requires Inv-loop μ-loop
@@ -28,7 +32,7 @@ nothing-shown-requires : tie.Need-nothing-shown-requires Inv-loop μ-loop
 nothing-shown-requires c κs = search needs
 
 loop-holds : tie.Need-loop-holds Inv-loop μ-loop
-loop-holds c = pass-none _ _ _ 64 _ _ (search needs) (search needs)
+loop-holds c = (pass-none _ _ _ 64 _ _ (search needs) (search needs), walked-none _ 64 _ 0 (search needs), search needs)
 
 mul-p : tie.Need-mul-p Inv-loop μ-loop
 mul-p c = search needs
@@ -51,6 +55,9 @@ mul-shown c = search needs
 array-set-from-shown : tie.Need-array-set-from-shown Inv-loop μ-loop
 array-set-from-shown c = search needs
 
+add-freed : tie.Need-add-freed Inv-loop μ-loop
+add-freed c = search needs
+
 show-requires : tie.Need-show-requires Inv-loop μ-loop
 show-requires c κs = search needs
 
@@ -68,15 +75,24 @@ loop-less c = search needs
 
 loop-again : tie.Need-loop-again Inv-loop μ-loop
 loop-again c =
-    let m = c .before .before .before .before .loop .inv in
+    let inv = c .before .before .before .before .loop .inv in
+    let m = inv .0 in
     let free = c .before .before .before .before .before .before .free-particle .ensures in
     let freed = c .before .freed .ensures in
     ⊎-elim
     (λ w.
-    rw (w .1, w .2)
-    (pass-changed _ _ _ 64 _ _ _ _ m _ _ _ (search needs) (free ∙ due-is-freed _ _ _ (sym freed ∙ w .0 .taken))
-    (c .before .before .before .before .before .nothing-shown .ensures ∙ free-shows-nothing _ _ ∙ ap (shownOf _ _) (sym free))))
-    (λ w. rw (w .2, w .3) (pass-kept _ _ _ 64 _ _ _ _ m _ _ (search needs) (other-stays _ _ _ (sym freed ∙ w .0 .left)) (w .1 .ensures)))
+    rw (w .1, w .2) (
+      pass-changed _ _ _ 64 _ _ _ _ m _ _ _ (search needs) (free ∙ due-is-freed _ _ _ (sym freed ∙ w .0 .taken))
+          (c .before .before .before .before .before .nothing-shown .ensures ∙ free-shows-nothing _ _ ∙ ap (shownOf _ _) (sym free)),
+      walked-more (inv .1) _ _ (search needs) (w .3 ∙ picked _ _ _ (sym (ap (isFreed _ _ 0) (pass-read _ _ _ 64 _ _ _ _ m _)) ∙ sym freed ∙ w .0 .taken)),
+      search needs,
+    ))
+    (λ w.
+    rw (w .2, w .3) (
+      pass-kept _ _ _ 64 _ _ _ _ m _ _ (search needs) (other-stays _ _ _ (sym freed ∙ w .0 .left)) (w .1 .ensures),
+      walked-more (inv .1) _ _ (search needs) (w .4 ∙ passed _ _ _ (sym (ap (isFreed _ _ 0) (pass-read _ _ _ 64 _ _ _ _ m _)) ∙ sym freed ∙ w .0 .left)),
+      search needs,
+    ))
     (c .if1 .came)
 
 max-hz-requires : tie.Need-max-hz-requires Inv-loop μ-loop
@@ -92,11 +108,12 @@ renewed-requires : tie.Need-renewed-requires Inv-loop μ-loop
 renewed-requires c κs = search needs
 
 returns : tie.Need-returns Inv-loop μ-loop
-unfolding takenOf windowsBy heldOf renewedOf
+unfolding takenOf windowsBy heldOf freedOf renewedOf
 returns c =
-    let m = c .before .before .before .before .before .loop .inv in
+    let inv = c .before .before .before .before .before .loop .inv in
+    let m = inv .0 in
     let all = c .before .before .before .before .loop-test .left in
-    rw (c .renewed .ensures, c .before .activity .ensures, c .before .before .windows .ensures, c .before .before .before .max-hz .ensures, pass-shown _ _ _ 64 _ _ _ _ m all, pass-held _ _ _ 64 _ _ _ _ m all)
+    rw (c .renewed .ensures, c .before .activity .ensures, c .before .before .windows .ensures, c .before .before .before .max-hz .ensures, pass-shown _ _ _ 64 _ _ _ _ m all, pass-held _ _ _ 64 _ _ _ _ m all, walked-all (inv .1) all)
 
 pub taken-spec : {M : Type 1} → statement M
 taken-spec =
@@ -114,6 +131,7 @@ taken-spec =
     array-set-from-held
     mul-shown
     array-set-from-shown
+    add-freed
     show-requires
     mul-shown-2
     array-set-from-shown-2

@@ -1,19 +1,15 @@
 -- `seconds` meets its contract: the difference that wraps is the definition's, and a small one is a
 -- float as it stands.
-use Prim.Native.Nat.{ℕ, _+_, _%_, _^_, _<_}
+use Prim.Native.Nat.{ℕ, _<_}
 use lib.Dec.{T, le→leb}
 use lib.IntN.{pos}
 use lib.Ieee.{binary64, inFloat}
 use native.Mathlib.Omega.{arith}
-use mathlib.Core.Path.{_≡_}
-use Rattle.places.specs.Freed.{elapsedOf, secondsOf}
+use Rattle.words.proofs.Words.{difference-is}
+use Rattle.places.specs.Freed.{secondsOf}
 use borrow.Author.Needs.{needs}
 use Rattle.places.proofs.seconds.Statement.{statement}
 use Rattle.places.proofs.seconds.Tie as tie
-
--- the number that `since` added to wraps back to `sample`
-wraps : (since sample r : ℕ) → since < 2 ^ 64 → r < 2 ^ 64 → (r + since) % 2 ^ 64 ≡ sample → r ≡ elapsedOf since sample
-wraps since sample r h l e = omega arith
 
 wrapping-sub-u64-requires : tie.Need-wrapping-sub-u64-requires
 wrapping-sub-u64-requires c κs = search needs
@@ -27,14 +23,14 @@ int-to-float-result c = exact _ (c .before .if1 .taken)
 
 returns : tie.Need-returns
 unfolding secondsOf
-returns c = rw (wraps _ _ _ (search needs) (search needs) (c .before .before .wrapping-sub-u64 .ensures))
+returns c = rw (difference-is _ _ _ (search needs) (search needs) (c .before .before .wrapping-sub-u64 .ensures))
 
 nearest-u64-to-f64-requires : tie.Need-nearest-u64-to-f64-requires
 nearest-u64-to-f64-requires c κs = search needs
 
 returns-2 : tie.Need-returns-2
 unfolding secondsOf
-returns-2 c = rw (c .nearest-u64-to-f64 .ensures, wraps _ _ _ (search needs) (search needs) (c .before .before .wrapping-sub-u64 .ensures))
+returns-2 c = rw (c .nearest-u64-to-f64 .ensures, difference-is _ _ _ (search needs) (search needs) (c .before .before .wrapping-sub-u64 .ensures))
 
 pub seconds-spec : {M : Type 1} → statement M
 seconds-spec =

@@ -7,12 +7,15 @@ use Rattle.tallies.proofs.bear_one.Tie as tie
 wrapping-add-u64-requires : tie.Need-wrapping-add-u64-requires
 wrapping-add-u64-requires c κs = search needs
 
+wrapping-add-usize-requires : tie.Need-wrapping-add-usize-requires
+wrapping-add-usize-requires c κs = search needs
+
 hash-requires : tie.Need-hash-requires
 hash-requires c κs = search needs
 
 returns : tie.Need-returns
 unfolding bornOne
-returns c = rw (c .hash .ensures, c .before .wrapping-add-u64 .ensures)
+returns c = rw (c .hash .ensures, c .before .wrapping-add-usize .ensures, c .before .before .wrapping-add-u64 .ensures)
 
 pub bear-one-spec : {M : Type 1} → statement M
-bear-one-spec = tie.close (tie.spec wrapping-add-u64-requires hash-requires returns)
+bear-one-spec = tie.close (tie.spec wrapping-add-u64-requires wrapping-add-usize-requires hash-requires returns)
