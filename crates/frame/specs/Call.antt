@@ -24,7 +24,7 @@ use Rattle.frame.specs.Frame.{activityOf, accepted}
 unfoldable pub heldOf : Engine → List Particle
 heldOf e = map (sweepOne (e .clock .sample) (e .prepared .«sample_rate»)) (e .particles)
 
--- how many that is
+-- how many places that frees
 unfoldable pub freedOf : Engine → ℕ
 freedOf e = count (isFreed (e .clock .sample) (e .prepared .«sample_rate»)) (e .particles)
 

@@ -19,7 +19,7 @@ worth-adds true n = refl
 worth-adds false n = sym (add-zero n)
 
 module _ {A : Type 0} (q : ℕ → A → Bool) where
-  -- one that was counted before
+  -- one more to begin with is one more in the end
   one-before : (i : ℕ) (xs : List A) (n : ℕ) → walk (counting q) i xs (n + 1) ≡ walk (counting q) i xs n + 1
   unfolding walk
   one-before i [] n = refl

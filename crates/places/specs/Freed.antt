@@ -28,7 +28,7 @@ retirementOf (At since) sample rate = div64 (secondsOf since sample rate) (f64 0
 unfoldable pub dueOf : ℕ → Float → Particle → Bool
 dueOf sample rate p = le (p .lifetime) (secondsOf (p .birth) sample rate) || le (f64 0x3ff0000000000000) (retirementOf (p .retirement) sample rate)
 
--- whether it frees the place, whichever it is
+-- whether it frees a place; which place it is, i, makes no difference
 abbrev pub isFreed : ℕ → Float → ℕ → Particle → Bool
 isFreed sample rate i p = p .active && dueOf sample rate p
 

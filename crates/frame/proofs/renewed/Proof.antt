@@ -1,4 +1,4 @@
--- `renewed` meets its contract: the number that the freed ones added to wraps back to is the difference.
+-- `renewed` meets its contract: what is left of the number is a difference of words.
 use Rattle.words.proofs.Words.{difference-is}
 use Rattle.frame.specs.Call.{renewedOf}
 use borrow.Author.Needs.{needs}
