@@ -4,7 +4,7 @@ use native.Mathlib.Decide.{ℕ-discrete}
 use native.Mathlib.Omega.{arith}
 use mathlib.Core.Path.{_≡_, refl, sym, ap, _∙_, subst}
 use mathlib.Core.Logic.{_⊎_, inl, inr}
-use mathlib.Core.Bool.{Bool, true, false, not, _&&_, _||_, true≢false}
+use mathlib.Core.Bool.{Bool, true, false, not, _&&_, _||_}
 use mathlib.Core.List.{List, map}
 use borrow.Author.Tests.{eqb-false, ltb-true, ltb-false}
 use lib.Dec.{eqb, ltb}
@@ -12,13 +12,12 @@ use lib.ListN.{length, getD, set, length-set, List·getD-map, List·getD-eq-defa
 use lib.Seq.{getD-set-same, getD-set-other}
 use lib.Ieee.{Float, le}
 use Rattle.lists.specs.Pick.{pick, picked, passed, by-case}
-use Rattle.lists.specs.First.{first-fails, first-passes}
 use Rattle.floats.specs.Names.{f64}
 use Rattle.pool.specs.declared.Particle.{Particle}
 use Rattle.pool.specs.declared.Retired.{Retired}
 use Rattle.pool.specs.declared.Retired.the-variants.{Not, At}
 use Rattle.pool.specs.Pool.{freeParticle, firstOf, retiredOf, retireOne, retireBoundOne, retunedOf, retuneOne}
-use Rattle.vacancies.specs.Vacancies.{isFree, freePlace}
+use Rattle.vacancies.specs.Vacancies.{freePlace}
 use Rattle.state.specs.declared.Engine.{Engine}
 use Rattle.bearing.specs.Birth.{chosenFor, voiceFor, newbornFor, isBarred, admittedOf, attemptedOf, bornOf}
 use Rattle.changes.specs.Changes.{retiredAll}
@@ -26,6 +25,7 @@ use Rattle.places.specs.Freed.{secondsOf, retirementOf, dueOf, sweepOne}
 use Rattle.frame.specs.Call.{heldOf, renewedOf}
 use Rattle.runs.specs.Acts.{Act, birth, retire, retireBound, retune, frame, source, streams, next, clock, weights, settings, act}
 use Rattle.lists.specs.Every.{in-case}
+use Rattle.runs.proofs.Lowest.{lowest-free, held-below}
 use Rattle.promises.specs.Life.{place, permitted, newborn, lifeOf, Fate, living, freed, age, faded, due, first, retiredAt, told}
 use Rattle.promises.specs.Demand3.{Lowest}
 
@@ -118,19 +118,8 @@ untouched e (weights ws) p h = refl
 untouched e (settings c) p h = refl
 
 -- ---- the lowest free place
-pub held-below : (ps : List Particle) (j : ℕ) → j < freePlace ps → getD ps j freeParticle .active ≡ true
-held-below ps j h = back (getD ps j freeParticle .active) (first-fails isFree freeParticle ps j h)
-  where
-    back : (b : Bool) → not b ≡ false → b ≡ true
-    back true q = refl
-    back false q = absurd (true≢false q)
-
 pub lowest-is : (e : Engine) → freePlace (e .particles) < length (e .particles) → Lowest e (freePlace (e .particles))
-lowest-is e h = (back (place e (freePlace (e .particles)) .active) (first-passes isFree freeParticle (e .particles) h), held-below (e .particles))
-  where
-    back : (b : Bool) → not b ≡ true → b ≡ false
-    back true q = absurd (true≢false (sym q))
-    back false q = refl
+lowest-is e h = (lowest-free (e .particles) h, held-below (e .particles))
 
 pub barred-is : (e : Engine) (index own : ℕ) → not (isBarred (chosenFor e index own) (e .next .«note_input_present»)) ≡ permitted e index own
 unfolding isBarred pick

@@ -2,21 +2,20 @@
 use Prim.Native.Nat.{ℕ, _+_, _≤_, _<_}
 use native.Mathlib.Omega.{arith}
 use mathlib.Core.Path.{_≡_, refl, sym, ap, _∙_, subst}
-use mathlib.Core.Bool.{Bool, true, false, not}
+use mathlib.Core.Bool.{true}
 use mathlib.Core.List.{List, [], _∷_, map}
 use borrow.Author.Tests.{ltb-true}
 use lib.Dec.{ltb}
-use lib.ListN.{length, getD, set, length-map, length-set}
+use lib.ListN.{length, set, length-map, length-set}
 use lib.Ieee.{Float}
 use Rattle.lists.specs.Counts.{count-set, count-kept, count-split}
 use Rattle.lists.specs.Every.{in-case}
-use Rattle.lists.specs.First.{first-passes}
 use Rattle.lists.specs.Pick.{pick, either}
 use Rattle.lists.specs.Walk.{walk, count-most}
 use Rattle.words.specs.Word.{difference}
 use Rattle.pool.specs.declared.Particle.{Particle}
 use Rattle.pool.specs.Pool.{freeParticle, retiredOf, retireOne, retireBoundOne, retunedOf, retuneOne}
-use Rattle.vacancies.specs.Vacancies.{isHeld, isFree, activeCount, freePlace}
+use Rattle.vacancies.specs.Vacancies.{isHeld, activeCount, freePlace}
 use Rattle.births.specs.Births.{newbornOf}
 use Rattle.state.specs.declared.Done.{Done}
 use Rattle.state.specs.declared.Engine.{Engine}
@@ -31,6 +30,7 @@ use Rattle.places.specs.Freed.{isFreed, sweepOne}
 use Rattle.places.proofs.Swept.{held-or-freed}
 use Rattle.frame.specs.Call.{heldOf, freedOf, renewedOf}
 use Rattle.runs.specs.Acts.{Act, birth, retire, retireBound, retune, frame, source, streams, next, clock, weights, settings, act, perform, Call, actsOf, applied}
+use Rattle.runs.proofs.Lowest.{lowest-free}
 use Rattle.runs.proofs.Performed.{calls-are-acts}
 
 pub record Numbered (e : Engine) : Type 0 where
@@ -62,10 +62,6 @@ newborn-active : (e : Engine) (index slot : ℕ) → newbornFor e index slot .ac
 unfolding newbornFor newbornOf
 newborn-active e index slot = refl
 
-was-free : (b : Bool) → not b ≡ true → b ≡ false
-was-free false q = refl
-was-free true q = sym q
-
 module _ (e : Engine) (w : Numbered e) (p : Particle) (active : p .active ≡ true) (room : freePlace (e .particles) < 64) where
   abbrev place : ℕ
   place = freePlace (e .particles)
@@ -75,7 +71,7 @@ module _ (e : Engine) (w : Numbered e) (p : Particle) (active : p .active ≡ tr
 
   counted-one : activeCount (set (e .particles) place p) ≡ activeCount (e .particles) + 1
   counted-one =
-      count-set isHeld (e .particles) place p freeParticle within (was-free (getD (e .particles) place freeParticle .active) (first-passes isFree freeParticle (e .particles) within)) active
+      count-set isHeld (e .particles) place p freeParticle within (lowest-free (e .particles) within) active
 
   number-born : grown (e .tally .held) ≡ activeCount (set (e .particles) place p)
   number-born = one-more (e .tally .held) (activeCount (e .particles)) (w .number) (let most = count-most isHeld (e .particles) in omega (arith, w .places)) ∙ sym counted-one
