@@ -10,7 +10,7 @@ wrapping-sub-usize-requires c κs = search needs
 
 returns : tie.Need-returns
 unfolding renewedOf
-returns c = rw (difference-is _ _ _ (search needs) (search needs) (c .before .before .wrapping-sub-usize .ensures))
+returns c = rw (← difference-is _ _ _ (search needs) (search needs) (c .before .before .wrapping-sub-usize .ensures))
 
 pub renewed-spec : {M : Type 1} → statement M
 renewed-spec = tie.close (tie.spec wrapping-sub-usize-requires returns)
