@@ -18,6 +18,7 @@ use Rattle.pool.specs.declared.Retired.{Retired}
 use Rattle.pool.specs.declared.Retired.the-variants.{Not, At}
 use Rattle.pool.specs.Pool.{freeParticle, firstOf, retiredOf, retireOne, retireBoundOne, retunedOf, retuneOne}
 use Rattle.vacancies.specs.Vacancies.{freePlace}
+use Rattle.vacancies.proofs.Lowest.{lowest-free, held-below}
 use Rattle.state.specs.declared.Engine.{Engine}
 use Rattle.bearing.specs.Birth.{chosenFor, voiceFor, newbornFor, isBarred, admittedOf, attemptedOf, bornOf}
 use Rattle.changes.specs.Changes.{retiredAll}
@@ -25,7 +26,6 @@ use Rattle.places.specs.Freed.{secondsOf, retirementOf, dueOf, sweepOne}
 use Rattle.frame.specs.Call.{heldOf, renewedOf}
 use Rattle.runs.specs.Acts.{Act, birth, retire, retireBound, retune, frame, source, streams, next, clock, weights, settings, act}
 use Rattle.lists.specs.Every.{in-case}
-use Rattle.runs.proofs.Lowest.{lowest-free, held-below}
 use Rattle.promises.specs.Life.{place, permitted, newborn, lifeOf, Fate, living, freed, age, faded, due, first, retiredAt, told}
 use Rattle.promises.specs.Demand3.{Lowest}
 

@@ -17,13 +17,13 @@ use Rattle.pool.specs.declared.Retired.{Retired}
 use Rattle.pool.specs.declared.Retired.the-variants.{Not, At}
 use Rattle.pool.specs.Pool.{freeParticle}
 use Rattle.vacancies.specs.Vacancies.{isFree, freePlace}
+use Rattle.vacancies.proofs.Lowest.{held-below}
 use Rattle.state.specs.declared.Engine.{Engine}
 use Rattle.state.specs.State.{grown, withNext, withTally}
 use Rattle.tallies.specs.Tallies.{droppedOne, bornOne}
 use Rattle.bearing.specs.Birth.{chosenFor, withLast, triedOne, voiceFor, newbornFor, settledAt, isBarred, admittedOf, attemptedOf, bornOf}
 use Rattle.places.specs.Freed.{sweepOne}
 use Rattle.runs.specs.Acts.{Act, birth, retire, retireBound, retune, frame, source, streams, next, clock, weights, settings, act, perform}
-use Rattle.runs.proofs.Lowest.{held-below}
 use Rattle.promises.specs.Life.{place, Held, permitted, newborn, Life, lifeOf, Fate, living, freed, due, first, retiredAt, told, onward, story}
 use Rattle.promises.specs.Demand3.{Lowest, Born, FirstDue}
 use Rattle.promises.proofs.Lives.{touched, fateOf, touched-told, untouched, due-is, lowest-is, barred-is, Newly, changed}

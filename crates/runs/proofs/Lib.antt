@@ -3,7 +3,6 @@ pub mod Frames
 pub mod Joins
 pub mod Kept
 pub mod Lawful
-pub mod Lowest
 pub mod Moments
 pub mod Newborns
 pub mod Numbered

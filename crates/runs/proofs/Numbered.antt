@@ -16,6 +16,7 @@ use Rattle.words.specs.Word.{difference}
 use Rattle.pool.specs.declared.Particle.{Particle}
 use Rattle.pool.specs.Pool.{freeParticle, retiredOf, retireOne, retireBoundOne, retunedOf, retuneOne}
 use Rattle.vacancies.specs.Vacancies.{isHeld, activeCount, freePlace}
+use Rattle.vacancies.proofs.Lowest.{lowest-free}
 use Rattle.births.specs.Births.{newbornOf}
 use Rattle.state.specs.declared.Done.{Done}
 use Rattle.state.specs.declared.Engine.{Engine}
@@ -30,7 +31,6 @@ use Rattle.places.specs.Freed.{isFreed, sweepOne}
 use Rattle.places.proofs.Swept.{held-or-freed}
 use Rattle.frame.specs.Call.{heldOf, freedOf, renewedOf}
 use Rattle.runs.specs.Acts.{Act, birth, retire, retireBound, retune, frame, source, streams, next, clock, weights, settings, act, perform, Call, actsOf, applied}
-use Rattle.runs.proofs.Lowest.{lowest-free}
 use Rattle.runs.proofs.Performed.{calls-are-acts}
 
 pub record Numbered (e : Engine) : Type 0 where
