@@ -1,4 +1,4 @@
--- Demand 3, of every moment of every run of calls.
+-- Demand 3, of every moment of every run of calls, and over its calls.
 use Prim.Native.Nat.{ℕ, zero, suc, _-_, _^_, _≤_}
 use native.Mathlib.Omega.{arith}
 use mathlib.Core.Path.{_≡_, refl, sym, ap, _∙_, subst}
@@ -25,9 +25,10 @@ use Rattle.runs.proofs.Performed.{perform-append, calls-are-acts}
 use Rattle.runs.proofs.Moments.{AllMeant, sound-performed, meant-append, meant-before, calls-meant}
 use Rattle.promises.specs.Life.{place, Held}
 use Rattle.promises.specs.Runs.{run, history, AllTyped, Begins, new, reset}
-use Rattle.promises.specs.Demand3.{Demand3}
+use Rattle.promises.specs.Demand3.{AtMoment, OverCalls, Demand3}
 use Rattle.promises.proofs.Stories as stories
 use Rattle.promises.proofs.Quiet.{only-frames}
+use Rattle.promises.proofs.Calls.{until, freed-by}
 
 -- ---- runs
 -- a run of calls is the acts of its history, one after the other
@@ -77,11 +78,11 @@ held-fit e s i h =
 plain : (since now : ℕ) → since ≤ now → now ≤ 2 ^ 40 → elapsedOf since now ≡ now - since
 plain since now h l = omega arith
 
--- THE THEOREM: demand 3 at every moment of every run of calls.
-pub demand3 : (start : Engine) → Begins start → (cs : List Call) → AllTyped cs → (before after : List Act) → history start cs ≡ before ++ after
-    → Demand3 start before (perform start before)
+-- ---- every moment of every run of calls
+at-moment : (start : Engine) → Begins start → (cs : List Call) → AllTyped cs → (before after : List Act) → history start cs ≡ before ++ after
+    → AtMoment start before (perform start before)
 unfolding ofBits
-demand3 start b cs t before after split =
+at-moment start b cs t before after split =
     let e = perform start before in
     let s = begins-sound start b in
     let m = meant-before start before after (subst (AllMeant start) split (history-meant start cs t (s .0))) in
@@ -98,3 +99,15 @@ demand3 start b cs t before after split =
       dropped = stories.dropped e (now .places);
       placed = stories.placed e (now .places);
     }
+
+-- ---- the calls of every run
+over-calls : (start : Engine) → Begins start → (cs : List Call) → AllTyped cs → (i : ℕ) → Held (run start cs) i → OverCalls (run start cs) i
+unfolding ofBits
+over-calls start b cs t i h =
+    let e = run start cs in
+    let now = sound-run start cs t (begins-sound start b .0) in
+    record { at-most-ten = held-fit e now i h .most; until = λ later n. until e later i h n; frees = λ later n c. let u = until e later i h n in freed-by (run e later) c i (u .0) }
+
+-- THE PROMISE
+pub demand3 : Demand3
+demand3 = record { calls-are-acts = calls-are-acts; runs-are-acts = run-is; moments = at-moment; calls = over-calls }

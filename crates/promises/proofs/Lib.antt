@@ -1,3 +1,4 @@
+pub mod Calls
 pub mod Demand1
 pub mod Demand3
 pub mod EveryRun
@@ -9,5 +10,6 @@ pub mod Quiet
 pub mod RegisterChoice
 pub mod RoundTrip
 pub mod ScriptFiles
+pub mod Scripts
 pub mod Stories
 pub mod Writing

@@ -25,7 +25,7 @@ use Rattle.bearing.specs.Birth.{chosenFor, withLast, triedOne, voiceFor, newbor
 use Rattle.places.specs.Freed.{sweepOne}
 use Rattle.runs.specs.Acts.{Act, birth, retire, retireBound, retune, frame, source, streams, next, clock, weights, settings, act, perform}
 use Rattle.promises.specs.Life.{place, Held, permitted, newborn, Life, lifeOf, Fate, living, freed, due, first, retiredAt, told, onward, story}
-use Rattle.promises.specs.Demand3.{Lowest, Born, FirstDue}
+use Rattle.promises.specs.Demand3.{Lowest, Born, FirstDue, Fixed}
 use Rattle.promises.proofs.Lives.{touched, fateOf, touched-told, untouched, due-is, lowest-is, barred-is, Newly, changed}
 
 -- ---- keeps
@@ -66,7 +66,7 @@ keeps e (a ∷ rest) i h l s = go (told e a (lifeOf (place e i))) (fate-after e 
         ih (k .0) l (subst (λ (x : Life). story (act e a) rest x ≡ living l) (sym (k .1)) s)
 
 -- ---- frees
-frees : (e : Engine) (i : ℕ) → Held e i → (seconds : Float) → due e (lifeOf (place e i)) ≡ true → place (act e (frame seconds)) i ≡ freeParticle
+pub frees : (e : Engine) (i : ℕ) → Held e i → (seconds : Float) → due e (lifeOf (place e i)) ≡ true → place (act e (frame seconds)) i ≡ freeParticle
 unfolding sweepOne
 frees e i h seconds d = go (changed e (frame seconds) i)
   where
@@ -98,9 +98,6 @@ frees-only e (weights ws) l q = never l q
 frees-only e (settings c) l q = never l q
 
 -- ---- fixed
-abbrev Fixed : Life → Life → Type 0
-Fixed l l′ = (l′ .birth ≡ l .birth) × (l′ .lifetime ≡ l .lifetime) × ((r : ℕ) → l .retired ≡ At r → l′ .retired ≡ At r)
-
 stands : (r : ℕ) (x : Retired) (now : ℕ) → x ≡ At r → first x now ≡ At r
 stands r Not now q = absurd (let z : _≡_ {A = ℕ} 0 1 = cc in omega arith)
 stands r (At since) now q = q
@@ -110,6 +107,9 @@ same l l′ q = let p : l ≡ l′ = cc in subst (λ (x : Life). Fixed l x) p (r
 
 marked : (now : ℕ) (l l′ : Life) → living (retiredAt now l) ≡ living l′ → Fixed l l′
 marked now l l′ q = let f = same (retiredAt now l) l′ q in (f .0, f .1, λ r h. f .2 r (stands r (l .retired) now h))
+
+pub fixed-on : (l m n : Life) → Fixed l m → Fixed m n → Fixed l n
+fixed-on l m n f g = (g .0 ∙ f .0, g .1 ∙ f .1, λ r h. g .2 r (f .2 r h))
 
 fixed-one : (e : Engine) (a : Act) (l l′ : Life) → told e a l ≡ living l′ → Fixed l l′
 unfolding told
@@ -135,10 +135,7 @@ fixed e (a ∷ rest) l l′ s = go (told e a l) refl s (λ (m : Life). fixed (ac
   where
     go : (f : Fate) → told e a l ≡ f → onward f (story (act e a) rest) ≡ living l′ → ((m : Life) → story (act e a) rest m ≡ living l′ → Fixed m l′) → Fixed l l′
     go freed q s ih = absurd (not-living l′ s)
-    go (living m) q s ih =
-        let f = fixed-one e a l m q in
-        let g = ih m s in
-        (g .0 ∙ f .0, g .1 ∙ f .1, λ r h. g .2 r (f .2 r h))
+    go (living m) q s ih = fixed-on l m l′ (fixed-one e a l m q) (ih m s)
 
 -- ---- ends
 pub first-due : (e : Engine) (later : List Act) (l : Life) → story e later l ≡ freed → FirstDue e later l

@@ -8,3 +8,4 @@ pub mod PlacesHeld
 pub mod RegisterChoice
 pub mod RoundTrip
 pub mod Runs
+pub mod Scripts
