@@ -2,17 +2,16 @@
 use Prim.Native.Nat.{ℕ}
 use mathlib.Core.Path.{_≡_, refl, sym, ap, _∙_, subst}
 use mathlib.Core.Logic.{_↔_}
-use mathlib.Core.Bool.{true, false, true≢false}
+use mathlib.Core.Bool.{false, true≢false}
 use mathlib.Core.List.{List, [], _∷_}
-use lib.Ieee.{Float}
 use Rattle.lists.specs.Pick.{picked}
 use Rattle.pool.specs.declared.Particle.{Particle}
 use Rattle.pool.specs.Pool.{freeParticle}
 use Rattle.state.specs.declared.Engine.{Engine}
 use Rattle.frame.specs.Frame.{accepted}
-use Rattle.runs.specs.Acts.{Act, frame, act, perform, Call, takeFrame, actsOf, applied}
+use Rattle.runs.specs.Acts.{frame, perform, Call, actsOf, applied}
 use Rattle.runs.proofs.Performed.{calls-are-acts}
-use Rattle.promises.specs.Life.{place, Held, Life, lifeOf, Fate, living, freed, due, story}
+use Rattle.promises.specs.Life.{place, Held, Life, lifeOf, Fate, living, freed, story}
 use Rattle.promises.specs.Runs.{run}
 use Rattle.promises.specs.Demand3.{DueFrame, Fixed, NoneDue}
 use Rattle.promises.proofs.Stories.{keeps, fixed, fixed-on, frees}

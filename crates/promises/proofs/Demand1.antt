@@ -2,7 +2,7 @@
 use Prim.Native.Nat.{ℕ, _+_, _-_, _*_, _/_, _^_}
 use mathlib.Core.Path.{_≡_, refl, sym, ap, _∙_}
 use mathlib.Core.Logic.{_↔_}
-use mathlib.Core.Bool.{Bool, true, false, cond, not, _&&_, _||_, true≢false}
+use mathlib.Core.Bool.{Bool, true, false, cond, not, _&&_, _||_}
 use mathlib.Core.List.{List, [], _∷_, _++_}
 use lib.Dec.{eqb, ltb, leb}
 use lib.ListN.{length, getD, drop}
@@ -14,22 +14,15 @@ use Rattle.refusals.specs.declared.Answer.the-variants.{Taken, Refused}
 use Rattle.refusals.specs.declared.Refusal.{Refusal}
 use Rattle.refusals.specs.declared.Refusal.the-variants.{Rate, Slot, Size, Elapsed, Lengths, Logs, Seconds, Tag, Cut, Value, Place, Script, Room, Attenuation, Record}
 use Rattle.refusals.specs.Numbers.{numberOf, answerOf}
-use Rattle.settings.specs.declared.Config.{Config}
 use Rattle.settings.specs.Settings.{checkedOf, lawfulRate}
-use Rattle.state.specs.declared.Engine.{Engine}
-use Rattle.state.specs.State.{taken, refused}
 use Rattle.basics.specs.New.{newEngineOf}
-use Rattle.triggers.specs.declared.Triggered.{Triggered}
-use Rattle.triggers.specs.declared.Outcome.the-variants as O
 use Rattle.engine.specs.Advance.{advancedOf}
 use Rattle.source_calls.specs.Slots.{setSourceOf, retireSourceOf, releaseSourceOf}
-use Rattle.changes.specs.Changes.{answeredBy, configuredOf}
-use Rattle.triggers.specs.Triggers.{outcomeNumber, told, outcomeOf, reservedOf, triggeredBy, triggeredOf}
+use Rattle.changes.specs.Changes.{configuredOf}
+use Rattle.triggers.specs.Triggers.{reservedOf, triggeredOf}
 use Rattle.windows.specs.declared.Frame.{Frame}
-use Rattle.windows.specs.Opening.{emptyFrame}
-use Rattle.frame.specs.declared.Framed.{Framed}
 use Rattle.frame.specs.Frame.{accepted}
-use Rattle.frame.specs.Call.{takenOf, refusedOf, framedOf}
+use Rattle.frame.specs.Call.{takenOf, framedOf}
 use Rattle.bin_tables.specs.Bins as bins
 use Rattle.bin_tables.specs.Logs.{lawfulLogs}
 use Rattle.mask.specs.Gains.{gainsOf}
@@ -55,8 +48,12 @@ use Rattle.script.specs.Field.{misplaced, unknown, bodyOf, readOf}
 use Rattle.ending.specs.declared.Ended.{Ended}
 use Rattle.ending.specs.Ended.{ranOf}
 use Rattle.entry.specs.Entry.{entryAnswer, ifTaken, entryBytes}
+use Rattle.promises.proofs.Answers.{done-leaves, new-leaves, checked, fired, fired-leaves, framed-leaves, new-answers, configure-answers, set-source-answers, retire-source-answers, release-source-answers, advance-answers, trigger-answers, frame-answers, step-answers}
+use Rattle.promises.proofs.Triggers as fires
+use Rattle.promises.proofs.Stops.{stops}
 use Rattle.promises.proofs.Writing.{listed-by, unlisted-by, written-by, unwritten-by}
-use Rattle.promises.specs.Demand1.{Row, firstOf, NoneHolds, Given, badSlot, readNumber, Kept, Demand1, badRecord, recordNumber, foundNumber, filedNumber}
+use Rattle.promises.specs.Tests.{Row, firstOf, NoneHolds, Given, readNumber, badRecord, recordNumber, foundNumber, filedNumber}
+use Rattle.promises.specs.Demand1.{Demand1}
 
 -- ---- the first test that holds
 found : (rows : List Row) (k : ℕ) → (k ≡ 0 → ⊥) → firstOf rows ≡ k → Given rows k
@@ -79,60 +76,6 @@ first-at (row ∷ rows) after k n = sym (passed (row .0) (row .1) (firstOf (rows
 
 given-exactly : (rows : List Row) (k : ℕ) → (k ≡ 0 → ⊥) → (firstOf rows ≡ k) ↔ Given rows k
 given-exactly rows k n = (found rows k n, λ g. ap firstOf (g .split) ∙ first-at (g .before) (g .after) k (g .none))
-
--- ---- calls with one refusal
-done : (b : Bool) (r : Refusal) (x e : Engine) → answerOf (pick b (taken x) (refused r e) .answer) ≡ firstOf ((not b, numberOf r) ∷ [])
-unfolding firstOf pick
-done true r x e = refl
-done false r x e = refl
-
-done-leaves : (b : Bool) (r : Refusal) (x e : Engine) → Kept e (pick b (taken x) (refused r e))
-unfolding pick
-done-leaves true r x e n = absurd (n refl)
-done-leaves false r x e n = refl
-
-new-leaves : (b : Bool) (x y : Engine) → not b ≡ true → pick b (taken x) (refused Rate y) .engine ≡ y
-unfolding pick
-new-leaves true x y n = absurd (true≢false (sym n))
-new-leaves false x y n = refl
-
-checked : (b : Bool) (e : Engine) (c : Config) → (answerOf (answeredBy (pick b (Refused Size) Taken) e c .answer) ≡ firstOf ((b, 3) ∷ [])) × Kept e (answeredBy (pick b (Refused Size) Taken) e c)
-unfolding firstOf pick
-checked true e c = (refl, λ n. refl)
-checked false e c = (refl, λ n. absurd (n refl))
-
--- ---- triggers: born, not eligible and dropped are 0
-outcomes : (e out : Engine) → outcomeNumber (outcomeOf e out .outcome) ≡ 0
-outcomes e out = either (λ (t : Triggered). outcomeNumber (t .outcome) ≡ 0) _ _ _ refl refl
-
-fired-by : (b : Bool) (t : Triggered) (e : Engine) → outcomeNumber (t .outcome) ≡ 0 → outcomeNumber (pick b t (told (O.Refused Slot) e) .outcome) ≡ firstOf ((not b, 2) ∷ [])
-unfolding firstOf pick
-fired-by true t e h = h
-fired-by false t e h = refl
-
-fired : (e : Engine) (slot index : ℕ) → outcomeNumber (triggeredBy e slot index .outcome) ≡ firstOf ((badSlot slot, 2) ∷ [])
-unfolding triggeredBy
-fired e slot index = fired-by (ltb slot 256) _ e (either (λ (t : Triggered). outcomeNumber (t .outcome) ≡ 0) _ _ _ (outcomes e _) refl)
-
-missed : (b : Bool) (t : Triggered) (e : Engine) → not b ≡ true → pick b t (told (O.Refused Slot) e) .engine ≡ e
-unfolding pick
-missed true t e n = absurd (true≢false (sym n))
-missed false t e n = refl
-
-fired-leaves : (e : Engine) (slot index : ℕ) → badSlot slot ≡ true → triggeredBy e slot index .engine ≡ e
-unfolding triggeredBy
-fired-leaves e slot index n = missed (ltb slot 256) _ e n
-
--- ---- frame
-framed : (b : Bool) (e : Engine) (x : Framed) → x .answer ≡ Taken → answerOf (pick b x (refusedOf e) .answer) ≡ firstOf ((not b, 7) ∷ [])
-unfolding firstOf pick refusedOf
-framed true e x h = ap answerOf h
-framed false e x h = refl
-
-framed-leaves : (b : Bool) (e : Engine) (x : Framed) → not b ≡ true → (pick b x (refusedOf e) .engine ≡ e) × (pick b x (refusedOf e) .frame ≡ emptyFrame)
-unfolding pick refusedOf
-framed-leaves true e x n = absurd (true≢false (sym n))
-framed-leaves false e x n = (refl, refl)
 
 -- ---- lent slices
 abbrev Bins : Type 0
@@ -304,23 +247,27 @@ unfolding newEngineOf lawfulRate configuredOf checkedOf setSourceOf retireSource
 demand1 =
     record {
       exactly = given-exactly;
-      new = λ rate. done (lawfulRate rate) Rate _ _;
+      new = new-answers;
       new-leaves = λ rate. new-leaves (lawfulRate rate) _ _;
-      configure = λ e c. checked (ltb 16384 (c .«hop_samples»)) e c .0;
+      configure = configure-answers;
       configure-leaves = λ e c. checked (ltb 16384 (c .«hop_samples»)) e c .1;
-      set-source = λ e slot s. done (ltb slot 256) Slot _ e;
+      set-source = set-source-answers;
       set-source-leaves = λ e slot s. done-leaves (ltb slot 256) Slot _ e;
-      retire-source = λ e slot. done (ltb slot 256) Slot _ e;
+      retire-source = retire-source-answers;
       retire-source-leaves = λ e slot. done-leaves (ltb slot 256) Slot _ e;
-      release-source = λ e slot. done (ltb slot 256) Slot _ e;
+      release-source = release-source-answers;
       release-source-leaves = λ e slot. done-leaves (ltb slot 256) Slot _ e;
-      advance = λ e n. done (leb (e .clock .sample + n) (2 ^ 40)) Elapsed _ e;
+      advance = advance-answers;
       advance-leaves = λ e n. done-leaves (leb (e .clock .sample + n) (2 ^ 40)) Elapsed _ e;
-      trigger = λ e slot. fired (reservedOf e .engine) slot _;
+      trigger = trigger-answers;
       trigger-leaves = λ e slot. fired-leaves (reservedOf e .engine) slot _;
       reserved = fired;
       reserved-leaves = fired-leaves;
-      frame = λ e binHz seconds. framed (accepted seconds) e (takenOf e binHz seconds) refl;
+      trigger-answers = λ e slot len. fires.trigger-answers e len slot;
+      trigger-born = λ e slot len. fires.trigger-born e len slot;
+      reserved-answers = λ e slot index len. fires.reserved-answers e len slot index;
+      reserved-born = λ e slot index len. fires.reserved-born e len slot index;
+      frame = frame-answers;
       frame-leaves = λ e binHz seconds. framed-leaves (accepted seconds) e (takenOf e binHz seconds);
       bin-table = λ rate size old. tabled (lawfulRate rate) (ltb size 1) (ltb 16384 size) (eqb (length old) (size / 2 + 1)) _ old .0;
       bin-table-leaves = λ rate size old. tabled (lawfulRate rate) (ltb size 1) (ltb 16384 size) (eqb (length old) (size / 2 + 1)) _ old .1;
@@ -342,6 +289,8 @@ demand1 =
           λ s first.
           let k = kindOf (getD s 0 0) in
           field-read (eqb (length s) 0) first (ltb (length s) 3) (misplaced (getD s 0 0) first) (unknown (getD s 0 0)) (eqb (be16 s 1) (lengthOf k)) (leb (lengthOf k) (length s - 3)) (lawful k (drop 3 s)) _ _;
+      step = step-answers;
+      script = stops;
       entry = λ s o. entered (eqb (length o) 2308) (leb (length s) 60000) _ _ refl;
       entry-leaves = entry-unwritten;
       list = listed-by;

@@ -2,7 +2,7 @@
 use Prim.Native.Nat.{ℕ, zero, suc, _-_, _^_, _≤_}
 use native.Mathlib.Omega.{arith}
 use mathlib.Core.Path.{_≡_, refl, sym, ap, _∙_, subst}
-use mathlib.Core.Bool.{true, false, true≢false}
+use mathlib.Core.Bool.{false, true≢false}
 use mathlib.Core.List.{List, [], _∷_, _++_}
 use borrow.Author.Tests.{ltb-true, ltb-false}
 use lib.Dec.{ltb}
@@ -96,8 +96,8 @@ at-moment start b cs t before after split =
       keeps = λ i h later l q. stories.keeps e later i h l q;
       ends = stories.ends e;
       only = only-frames e;
-      dropped = stories.dropped e (now .places);
-      placed = stories.placed e (now .places);
+      dropped = λ index own a. stories.dropped e (now .places) index own (stories.below-not (e .tally .attempts) a);
+      placed = λ index own a. stories.placed e (now .places) index own (stories.below-not (e .tally .attempts) a);
     }
 
 -- ---- the calls of every run

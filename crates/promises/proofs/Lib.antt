@@ -1,3 +1,4 @@
+pub mod Answers
 pub mod Calls
 pub mod Demand1
 pub mod Demand3
@@ -11,5 +12,7 @@ pub mod RegisterChoice
 pub mod RoundTrip
 pub mod ScriptFiles
 pub mod Scripts
+pub mod Stops
 pub mod Stories
+pub mod Triggers
 pub mod Writing

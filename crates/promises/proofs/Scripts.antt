@@ -5,7 +5,7 @@ use mathlib.Core.Bool.{Bool, true, false, cond}
 use mathlib.Core.List.{List, [], _∷_, _++_, map, append-nil, append-assoc}
 use native.Mathlib.Omega.{arith}
 use lib.Dec.{eqb}
-use lib.ListN.{length, take, drop}
+use lib.ListN.{length, take}
 use lib.Seq.{take-append-seam}
 use lib.Ieee.{binary32, binary64}
 use lib.Ieee.Bits.{ofBits-fits}
@@ -43,7 +43,7 @@ use Rattle.turns.specs.declared.Turn.{Turn}
 use Rattle.turns.specs.Turns.{toldOf, refusalOf, repliedOf, turnsOf}
 use Rattle.turns_laws.specs.Over.{lastLine, turnsOver}
 use Rattle.turns_laws.proofs.Follow.{turns-follow}
-use Rattle.runs.specs.Acts.{Act, Call, Single, Typed, perform, applied}
+use Rattle.runs.specs.Acts.{Call, Single, Typed, applied}
 use Rattle.promises.specs.Life.{Held}
 use Rattle.promises.specs.Runs.{run, history, AllTyped, Begins, new, reset}
 use Rattle.promises.specs.Demand3.{AtMoment, OverCalls}
@@ -145,16 +145,16 @@ replied-run n size r (R.Refused c) = go (eqb n 1)
     go false = refl
 replied-run n size r (R.Framed v) = refl
 
-nothing-after : {A X : Type 0} (xs ys : List A) (x : A) → [] ≡ xs ++ x ∷ ys → X
+pub nothing-after : {A X : Type 0} (xs ys : List A) (x : A) → [] ≡ xs ++ x ∷ ys → X
 nothing-after [] ys x q = absurd (let z : _≡_ {A = ℕ} 0 1 = cc in omega arith)
 nothing-after (y ∷ xs) ys x q = absurd (let z : _≡_ {A = ℕ} 0 1 = cc in omega arith)
 
 -- the turn of one field, before which the run is at the end of a course
 module _ (p : Placed) (before : Run) (n : ℕ) where
-  abbrev turnAt : Turn
+  abbrev pub turnAt : Turn
   turnAt = repliedOf n (p .size) (stepOf before (p .field) .run) (stepOf before (p .field) .reply)
 
-  turn-moved : (k : Course) → before .engine ≡ reached k → turnAt .run .engine ≡ reached (movedBy k (eventOf (p .field)))
+  pub turn-moved : (k : Course) → before .engine ≡ reached k → turnAt .run .engine ≡ reached (movedBy k (eventOf (p .field)))
   turn-moved k q =
       ap (λ (r : Run). r .engine) (replied-run n (p .size) (stepOf before (p .field) .run) (stepOf before (p .field) .reply))
       ∙ step-engine before (p .field)

@@ -231,10 +231,10 @@ born e acts none i h =
     ⊎-elim {A = Born e acts i (lifeOf (place (perform e acts) i))} {B = Lived e acts i} (λ b. b) (λ x. absurd (true≢false (sym (x .0) ∙ none i))) (traced e acts i h)
 
 -- ---- a permitted birth inside the attempt limit
-below-not : (n : ℕ) → n < 64 → eqb n 64 ≡ false
+pub below-not : (n : ℕ) → n < 64 → eqb n 64 ≡ false
 below-not n h = ne-eqb n 64 (λ q. absurd (omega (arith, q)))
 
-moved-on : (n : ℕ) → n ≡ grown n → ⊥
+pub moved-on : (n : ℕ) → n ≡ grown n → ⊥
 moved-on n h = omega arith
 
 open-to : (e : Engine) (index own : ℕ) → permitted e index own ≡ true → isBarred (chosenFor e index own) (e .next .«note_input_present») ≡ false
@@ -244,7 +244,7 @@ open-to e index own p = go (isBarred (chosenFor e index own) (e .next .«note_in
     go true q = absurd (true≢false (sym q))
     go false q = refl
 
-module _ (e : Engine) (len : length (e .particles) ≡ 64) (index own : ℕ) (a : e .tally .attempts < 64) (p : permitted e index own ≡ true) where
+module _ (e : Engine) (len : length (e .particles) ≡ 64) (index own : ℕ) (a : eqb (e .tally .attempts) 64 ≡ false) (p : permitted e index own ≡ true) where
   abbrev slot : ℕ
   slot = chosenFor e index own
 
@@ -254,13 +254,13 @@ module _ (e : Engine) (len : length (e .particles) ≡ 64) (index own : ℕ) (a 
 
   reached : admittedOf out index slot ≡ act e (birth index own)
   unfolding act bornOf attemptedOf
-  reached = passed (isBarred slot (e .next .«note_input_present»)) _ _ (open-to e index own p) ∙ passed (eqb (e .tally .attempts) 64) _ _ (below-not (e .tally .attempts) a)
+  reached = passed (isBarred slot (e .next .«note_input_present»)) _ _ (open-to e index own p) ∙ passed (eqb (e .tally .attempts) 64) _ _ a
 
-  settled-so : ltb (freePlace (e .particles)) 64 ≡ true → settledAt out (freePlace (e .particles)) (newborn e index own) index ≡ act e (birth index own)
+  pub settled-so : ltb (freePlace (e .particles)) 64 ≡ true → settledAt out (freePlace (e .particles)) (newborn e index own) index ≡ act e (birth index own)
   unfolding admittedOf newbornFor voiceFor
   settled-so f = picked (ltb (freePlace (e .particles)) 64) _ _ f ∙ reached
 
-  dropped-so : ltb (freePlace (e .particles)) 64 ≡ false → withTally out (droppedOne (out .tally)) ≡ act e (birth index own)
+  pub dropped-so : ltb (freePlace (e .particles)) 64 ≡ false → withTally out (droppedOne (out .tally)) ≡ act e (birth index own)
   unfolding admittedOf
   dropped-so f = passed (ltb (freePlace (e .particles)) 64) _ _ f ∙ reached
 

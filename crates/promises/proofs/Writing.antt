@@ -14,7 +14,7 @@ use Rattle.writer.specs.Encoded.{encoded}
 use Rattle.writer.specs.Written.{writtenOf}
 use Rattle.writer.proofs.Sizes.{three-bytes}
 use Rattle.listing.specs.Listed.{roomFor, listedOf, leftIn}
-use Rattle.promises.specs.Demand1.{firstOf, listedNumber}
+use Rattle.promises.specs.Tests.{firstOf, listedNumber}
 
 module _ (s o : List ℕ) where
   pub listed-by : listedNumber (listedOf (length o) s) ≡ firstOf ((ltb (length o) (roomFor (length s)), 13) ∷ [])

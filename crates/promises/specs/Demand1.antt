@@ -1,26 +1,26 @@
 -- DEMAND 1, as it is promised: for each call the tests of the scope, or of its order, one after the other, each with the number that it gives, and what a refusal leaves.
+-- Its terms are those of Tests.antt, of Triggers.antt (what a trigger answers besides) and of Stops.antt (how a script stops).
 use Prim.Native.Nat.{ℕ, _+_, _-_, _*_, _/_, _^_}
 use mathlib.Core.Path.{_≡_}
 use mathlib.Core.Logic.{_↔_}
-use mathlib.Core.Bool.{Bool, true, false, not, _&&_, _||_}
-use mathlib.Core.List.{List, [], _∷_, _++_}
+use mathlib.Core.Bool.{Bool, true, not, _&&_, _||_}
+use mathlib.Core.List.{List, [], _∷_}
+use lib.Bits.{bitXor}
 use lib.Dec.{eqb, ltb, leb}
 use lib.ListN.{length, getD, drop}
-use lib.Ieee.{Float, le, isNan}
-use lib.Ieee.Scale.{finite}
+use lib.Ieee.{Float, isNan}
 use Rattle.lists.specs.All.{all}
-use Rattle.lists.specs.Pick.{pick}
 use Rattle.floats.specs.Names.{f32}
-use Rattle.refusals.specs.Numbers.{numberOf, answerOf}
+use Rattle.refusals.specs.Numbers.{answerOf}
 use Rattle.settings.specs.declared.Config.{Config}
 use Rattle.sources.specs.declared.Source.{Source}
-use Rattle.state.specs.declared.Done.{Done}
 use Rattle.state.specs.declared.Engine.{Engine}
 use Rattle.state.specs.Make.{preparedOf, newOn}
 use Rattle.basics.specs.New.{newEngineOf}
 use Rattle.engine.specs.Advance.{advancedOf}
 use Rattle.source_calls.specs.Slots.{setSourceOf, retireSourceOf, releaseSourceOf}
 use Rattle.changes.specs.Changes.{configuredOf}
+use Rattle.triggers.specs.declared.Outcome.the-variants.{Born}
 use Rattle.triggers.specs.Triggers.{outcomeNumber, reservedOf, triggeredBy, triggeredOf}
 use Rattle.windows.specs.declared.Frame.{Frame}
 use Rattle.windows.specs.Opening.{emptyFrame}
@@ -28,96 +28,28 @@ use Rattle.frame.specs.Call.{framedOf}
 use Rattle.bin_tables.specs.Bins as bins
 use Rattle.bin_tables.specs.Logs.{lawfulLogs}
 use Rattle.mask.specs.Gains.{gainsOf}
-use Rattle.decibels.specs.Entries.{isEntry}
-use Rattle.mask_records.specs.declared.Written.{Written}
-use Rattle.mask_records.specs.declared.Written.the-variants as W
-use Rattle.mask_records.specs.declared.Read as reader
-use Rattle.mask_records.specs.declared.Read.the-variants as M
 use Rattle.mask_records.specs.Entries.{attenuationAt}
 use Rattle.mask_records.specs.Written as records
 use Rattle.mask_records.specs.Found as records-in
-use Rattle.mask_files.specs.declared.Filed.{Filed}
-use Rattle.mask_files.specs.declared.Filed.the-variants as Files
 use Rattle.mask_files.specs.Records.{filedOf}
 use Rattle.mask_files.specs.Masks.{logsFor, masksOf}
-use Rattle.script.specs.declared.Read.{Read}
-use Rattle.script.specs.declared.Read.the-variants as R
 use Rattle.fields.specs.Bytes.{be16}
 use Rattle.fields.specs.Table.{kindOf, lengthOf, lawful}
 use Rattle.script.specs.Field.{misplaced, unknown, readOf}
 use Rattle.fields.specs.declared.Field.{Field}
+use Rattle.steps.specs.declared.Run.{Run}
+use Rattle.steps.specs.Steps.{stepOf}
 use Rattle.text.specs.Put.{bufferOf}
 use Rattle.writer.specs.Encoded.{encoded}
 use Rattle.writer.specs.Written.{writtenOf}
-use Rattle.listing.specs.declared.Listed.{Listed}
-use Rattle.listing.specs.declared.Listed.the-variants as L
 use Rattle.listing.specs.Listed.{roomFor, listedOf, leftIn}
 use Rattle.ending.specs.Ended.{badOf}
 use Rattle.turns.specs.Last.{lastTurn}
 use Rattle.turns.specs.Turns.{turnsOf}
 use Rattle.entry.specs.Entry.{entryAnswer, entryBytes}
-
--- a test, and the number that is given where it is the first to hold
-abbrev pub Row : Type 0
-Row = Bool × ℕ
-
--- the number of the first test that holds; 0, a call that is taken, where none does
-unfoldable pub firstOf : List Row → ℕ
-firstOf [] = 0
-firstOf (row ∷ rows) = pick (row .0) (row .1) (firstOf rows)
-
-abbrev pub NoneHolds : List Row → Type 0
-NoneHolds [] = Unit {0}
-NoneHolds (row ∷ rows) = (row .0 ≡ false) × NoneHolds rows
-
--- a row with the number k holds, and none before it does
-pub record Given (rows : List Row) (k : ℕ) : Type 0 where
-  pub before : List Row
-  pub after : List Row
-  pub split : rows ≡ before ++ (true, k) ∷ after
-  pub none : NoneHolds before
-
--- ---- the tests
--- 1: the rate is not finite, or outside 8,000 to 384,000
-abbrev pub badRate : Float → Bool
-badRate rate = not (finite rate && (le (f32 0x45fa0000) rate && le rate (f32 0x48bb8000)))
-
--- 2: slot 256 or above
-abbrev pub badSlot : ℕ → Bool
-badSlot slot = not (ltb slot 256)
-
--- 19: no tag 32 of ten bytes, a count outside 1 to 8,193, no tag 33 of two bytes a bin, bytes that end within it, or an entry that isn't in the table
-abbrev pub badRecord : List ℕ → Bool
-badRecord s =
-    let n = be16 s 11 in
-    not ((eqb (getD s 0 0) 32 && eqb (be16 s 1) 10) && ((leb 1 n && leb n 8193) && ((eqb (getD s 13 0) 33 && eqb (be16 s 14) (2 * n)) && leb (16 + 2 * n) (length s))))
-    || not (all (λ i. isEntry (be16 s (16 + 2 * i))) n)
-
-abbrev pub readNumber : Read → ℕ
-readNumber (R.Field f k) = 0
-readNumber (R.Bad r) = numberOf r
-readNumber R.End = 0
-
-abbrev pub listedNumber : Listed → ℕ
-listedNumber (L.Count n) = 0
-listedNumber (L.Refused r) = numberOf r
-
-abbrev pub recordNumber : Written → ℕ
-recordNumber (W.Upto p) = 0
-recordNumber (W.Refused r) = numberOf r
-
-abbrev pub foundNumber : reader.Read → ℕ
-foundNumber M.End = 0
-foundNumber (M.Found v n k) = 0
-foundNumber (M.Refused r) = numberOf r
-
-abbrev pub filedNumber : Filed → ℕ
-filedNumber (Files.Upto p) = 0
-filedNumber (Files.Refused r) = numberOf r
-
--- a refusal leaves the engine as it was
-abbrev pub Kept : Engine → Done → Type 0
-Kept e d = (answerOf (d .answer) ≡ 0 → ⊥) → d .engine ≡ e
+use Rattle.promises.specs.Tests.{Row, firstOf, Given, badRate, badSlot, pastLimit, badSeconds, badRecord, testsOf, replyNumber, readNumber, listedNumber, recordNumber, foundNumber, filedNumber, Kept}
+use Rattle.promises.specs.Triggers.{Places, answered, Settled}
+use Rattle.promises.specs.Stops.{Stops}
 
 pub record Demand1 : Type 0 where
   -- an equation with `firstOf` is the exact condition both ways
@@ -132,16 +64,20 @@ pub record Demand1 : Type 0 where
   pub retire-source-leaves : (e : Engine) (slot : ℕ) → Kept e (retireSourceOf e slot)
   pub release-source : (e : Engine) (slot : ℕ) → answerOf (releaseSourceOf e slot .answer) ≡ firstOf ((badSlot slot, 2) ∷ [])
   pub release-source-leaves : (e : Engine) (slot : ℕ) → Kept e (releaseSourceOf e slot)
-  pub advance : (e : Engine) (n : ℕ) → answerOf (advancedOf e n .answer) ≡ firstOf ((not (leb (e .clock .sample + n) (2 ^ 40)), 4) ∷ [])
+  pub advance : (e : Engine) (n : ℕ) → answerOf (advancedOf e n .answer) ≡ firstOf ((pastLimit e n, 4) ∷ [])
   pub advance-leaves : (e : Engine) (n : ℕ) → Kept e (advancedOf e n)
   -- a trigger for a missing slot has used its index, and no more
   pub trigger : (e : Engine) (slot : ℕ) → outcomeNumber (triggeredOf e slot .outcome) ≡ firstOf ((badSlot slot, 2) ∷ [])
   pub trigger-leaves : (e : Engine) (slot : ℕ) → badSlot slot ≡ true → triggeredOf e slot .engine ≡ reservedOf e .engine
   pub reserved : (e : Engine) (slot index : ℕ) → outcomeNumber (triggeredBy e slot index .outcome) ≡ firstOf ((badSlot slot, 2) ∷ [])
   pub reserved-leaves : (e : Engine) (slot index : ℕ) → badSlot slot ≡ true → triggeredBy e slot index .engine ≡ e
-  -- 7: the seconds are negative or not finite; minus zero is not below 0
-  pub frame : (e : Engine) (binHz seconds : Float) → answerOf (framedOf e binHz seconds .answer) ≡ firstOf ((not (finite seconds && le (f32 0) seconds), 7) ∷ [])
-  pub frame-leaves : (e : Engine) (binHz seconds : Float) → not (finite seconds && le (f32 0) seconds) ≡ true
+  -- every trigger's answer, by the first test that holds; where it is born, its particle stands in the lowest place that was free
+  pub trigger-answers : (e : Engine) (slot : ℕ) → Places e → triggeredOf e slot .outcome ≡ answered e slot
+  pub trigger-born : (e : Engine) (slot : ℕ) → Places e → triggeredOf e slot .outcome ≡ Born → Settled e (bitXor (e .next .«immediate_index») (2 ^ 63)) slot (triggeredOf e slot .engine)
+  pub reserved-answers : (e : Engine) (slot index : ℕ) → Places e → triggeredBy e slot index .outcome ≡ answered e slot
+  pub reserved-born : (e : Engine) (slot index : ℕ) → Places e → triggeredBy e slot index .outcome ≡ Born → Settled e (bitXor index (2 ^ 63)) slot (triggeredBy e slot index .engine)
+  pub frame : (e : Engine) (binHz seconds : Float) → answerOf (framedOf e binHz seconds .answer) ≡ firstOf ((badSeconds seconds, 7) ∷ [])
+  pub frame-leaves : (e : Engine) (binHz seconds : Float) → badSeconds seconds ≡ true
       → (framedOf e binHz seconds .engine ≡ e) × (framedOf e binHz seconds .frame ≡ emptyFrame)
   -- 1, 3, 5, 6 in this order
   pub bin-table : (rate : Float) (size : ℕ) (old : List Float)
@@ -198,6 +134,10 @@ pub record Demand1 : Type 0 where
       ∷ (not (leb (lengthOf (kindOf (getD s 0 0))) (length s - 3)), 9)
       ∷ (not (lawful (kindOf (getD s 0 0)) (drop 3 s)), 10)
       ∷ [])
+  -- the engine's answer to a field. `seek`, note input, `reset` and `reserve_trigger` hand back an engine, `elapsed_samples` and `active_count` a number, and no answer beside it: they can't refuse, and nor do their fields.
+  pub step : (before : Run) (f : Field) → replyNumber (stepOf before f .reply) ≡ firstOf (testsOf (before .engine) f)
+  -- a whole script: where it stops, with which number, and that it goes on until then
+  pub script : (s : List ℕ) → Stops s
   -- a whole script, for a host: 5, 12, or the number of the field that stopped it
   pub entry : (s o : List ℕ)
       → answerOf (entryAnswer s o) ≡ firstOf ((not (eqb (length o) 2308), 5) ∷ (not (leb (length s) 60000), 12) ∷ (true, answerOf (badOf (lastTurn s .line))) ∷ [])

@@ -9,3 +9,6 @@ pub mod RegisterChoice
 pub mod RoundTrip
 pub mod Runs
 pub mod Scripts
+pub mod Stops
+pub mod Tests
+pub mod Triggers

@@ -1,0 +1,94 @@
+-- How a script stops, as demand 1 has it: 12 before anything is run, 1 in field 1, the first bad field, or its end. Definitions only.
+use Prim.Native.Nat.{ℕ, suc, _<_}
+use mathlib.Core.Path.{_≡_}
+use mathlib.Core.Bool.{Bool, true, false, not}
+use mathlib.Core.List.{List, [], _∷_, _++_}
+use lib.Dec.{eqb, ltb}
+use lib.ListN.{length}
+use Rattle.lists.specs.Every.{Every}
+use Rattle.lists.specs.Pick.{pick}
+use Rattle.refusals.specs.declared.Refusal.the-variants.{Rate, Script}
+use Rattle.refusals.specs.Numbers.{numberOf, answerOf}
+use Rattle.fields.specs.declared.Field.{Field}
+use Rattle.script_reading.specs.Reading.{Verdict, ended, bad, onward}
+use Rattle.writer_laws.specs.Events.{isRate, events}
+use Rattle.steps.specs.Steps.{fresh}
+use Rattle.lines.specs.declared.Line.{Line}
+use Rattle.lines.specs.declared.Line.the-variants as L
+use Rattle.turns.specs.declared.Turn.{Turn}
+use Rattle.turns.specs.Turns.{turnsOf}
+use Rattle.turns.specs.Last.{lastTurn}
+use Rattle.turns_laws.specs.Over.{lastLine}
+use Rattle.listing.specs.Printed.{linesOf, lines}
+use Rattle.ending.specs.Ended.{badOf}
+use Rattle.promises.specs.Tests.{Row, firstOf, testsOf}
+use Rattle.promises.specs.Scripts.{reached, courseOf}
+
+-- ---- numbers
+abbrev pub verdictNumber : Verdict → ℕ
+verdictNumber ended = 0
+verdictNumber (bad r) = numberOf r
+
+-- of a line that stops the script
+abbrev pub badNumber : Line → ℕ
+badNumber L.Nothing = 0
+badNumber (L.Frame n v) = 0
+badNumber (L.Refused n r) = 0
+badNumber (L.Bad n r) = numberOf r
+badNumber (L.End n) = 0
+
+-- of the first such line of a listing
+abbrev pub badIn : List Line → ℕ
+badIn [] = 0
+badIn (l ∷ ls) = pick (eqb (badNumber l) 0) (badIn ls) (badNumber l)
+
+-- of a line that says that the engine refused its field
+abbrev pub refusedNumber : Line → ℕ
+refusedNumber L.Nothing = 0
+refusedNumber (L.Frame n v) = 0
+refusedNumber (L.Refused n r) = numberOf r
+refusedNumber (L.Bad n r) = numberOf r
+refusedNumber (L.End n) = 0
+
+-- by which the engine refuses the first of the fields; 0 where it takes it, or there is none
+abbrev pub rateNumber : List Field → ℕ
+rateNumber [] = 0
+rateNumber (f ∷ fs) = firstOf (testsOf (fresh .engine) f)
+
+-- 1 where the engine refuses the rate, or else the number of the first bad field, 0 where there is none
+abbrev pub stopRows : List ℕ → List Row
+stopRows s = (not (eqb (rateNumber (events (onward 1 0 s))) 0), 1) ∷ (true, verdictNumber (onward 1 0 s .verdict)) ∷ []
+
+-- ---- turns
+-- after such a line the next field is read
+abbrev pub goesOn : Line → Bool
+goesOn L.Nothing = true
+goesOn (L.Frame n v) = true
+goesOn (L.Refused n r) = true
+goesOn (L.Bad n r) = false
+goesOn (L.End n) = false
+
+-- every field that was read has its turn, after which the script goes on, and behind them stands the line of the verdict
+pub record Through (s : List ℕ) : Type 0 where
+  pub turns : List Turn
+  pub last : Turn
+  pub split : turnsOf s ≡ turns ++ last ∷ []
+  pub one-each : length turns ≡ length (events (onward 1 0 s))
+  pub go-on : Every (λ (t : Turn). goesOn (t .line) ≡ true) turns
+  pub at-last : last .line ≡ lastLine (suc (length turns)) (onward 1 0 s .verdict)
+
+pub record Stops (s : List ℕ) : Type 0 where
+  -- the listing's number, 12 first: a script above 60,000 bytes has the one line `field 0 bad 12`
+  pub listing : badIn (lines s) ≡ firstOf ((ltb 60000 (length s), 12) ∷ stopRows s)
+  pub too-long : 60000 < length s → lines s ≡ L.Bad 0 Script ∷ []
+  -- and the number for a host, which has judged 12 before
+  pub number : answerOf (badOf (lastTurn s .line)) ≡ firstOf (stopRows s)
+  -- a first field that is read is the rate; where the engine refuses it, the one line is `field 1 bad 1`
+  pub rate-first : (f : Field) (fs : List Field) → events (onward 1 0 s) ≡ f ∷ fs → isRate f ≡ true
+  pub stopped : (rateNumber (events (onward 1 0 s)) ≡ 0 → ⊥) → linesOf (turnsOf s) ≡ L.Bad 1 Rate ∷ []
+  -- otherwise every field is taken up, a refused one too, until one is bad or the script ends
+  pub through : rateNumber (events (onward 1 0 s)) ≡ 0 → Through s
+  -- a field's line says a refusal exactly when the engine's tests give it
+  pub refused : (before after : List Turn) (t : Turn) → turnsOf s ≡ before ++ t ∷ after
+      → (fs gs : List Field) (f : Field) → events (onward 1 0 s) ≡ fs ++ f ∷ gs → length fs ≡ length before
+      → refusedNumber (t .line) ≡ firstOf (testsOf (reached (courseOf s (length before))) f)
