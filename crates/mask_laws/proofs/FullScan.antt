@@ -11,6 +11,7 @@ use lib.Ieee.{Float, nan, binary32, ofBits, neg, sub, mul, div, lt, le, eq, fits
 use lib.Ieee.Bits.{is-false}
 use lib.Ieee.Fits.{sub-fits, mul-fits, cond-fits}
 use lib.Ieee.Scale.{finite}
+use Rattle.lists.specs.Every.{Every}
 use Rattle.lists.specs.Pick.{by-case}
 use Rattle.lists.specs.Walk.{walk}
 use Rattle.choices.specs.Choose.{max, clamp, abs}
@@ -30,19 +31,8 @@ use Rattle.windows_laws.proofs.Tapered.{taper-finite}
 use Rattle.openings.specs.Opened.{touches, raisedOf, raising, openAt}
 use Rattle.bin_tables.specs.Logs.{lawfulLogs}
 use Rattle.openings.proofs.Ordered.{all-finite}
+use Rattle.mask_laws.specs.Finite.{Finite}
 use Rattle.mask_laws.proofs.Shut.{shut}
-
--- a window of floats that f32 holds, all finite
-pub record Finite (w : Window) : Type 0 where
-  pub centre : T (finite (w .«center_log2_hz»))
-  pub radius : T (finite (w .«radius_octaves»))
-  pub amplitude : T (finite (w .amplitude))
-  pub radius-fits : T (fits binary32 (w .«radius_octaves»))
-  pub amplitude-fits : T (fits binary32 (w .amplitude))
-
-abbrev pub AllFinite : List Window → Type 0
-AllFinite [] = Unit {0}
-AllFinite (w ∷ ws) = Finite w × AllFinite ws
 
 z-below-z : T (le nought nought)
 unfolding le lt eq
@@ -141,7 +131,7 @@ module _ (w : Window) (log : Float) (F : Finite w) (fl : T (fits binary32 log)) 
         (λ g. level-at (shut w log (F .radius-fits) fl (F .centre) (F .radius) ul (above r (F .radius-fits) (F .radius) e) (F .amplitude) (above a (F .amplitude-fits) (F .amplitude) d) e g))))
 
 -- ---- all windows at one bin
-scan : (log : Float) (bin : ℕ) → T (fits binary32 log) → T (finite log) → 1 ≤ bin → (ws : List Window) → AllFinite ws → (j : ℕ) (o : Float) → T (fits binary32 o) → T (le nought o)
+scan : (log : Float) (bin : ℕ) → T (fits binary32 log) → T (finite log) → 1 ≤ bin → (ws : List Window) → Every Finite ws → (j : ℕ) (o : Float) → T (fits binary32 o) → T (le nought o)
     → walk (raising bin log) j ws o ≡ walk (opening log) j ws o
 unfolding walk
 scan log bin fl ul l [] F j o p h = refl
@@ -150,7 +140,7 @@ scan log bin fl ul l (w ∷ ws) F j o p h =
     ap (walk (raising bin log) (suc j) ws) (agrees w log (F .0) fl ul o p h bin l)
     ∙ scan log bin fl ul l ws (F .1) (suc j) (max o v) (max-fits binary32 o v p (openness-fits w log)) (keeps o v p (openness-fits w log) h)
 
-pub full-scan : (ws : List Window) → AllFinite ws → (logs : List Float) → ((k : ℕ) → T (fits binary32 (getD logs k nan))) → lawfulLogs logs ≡ true
+pub full-scan : (ws : List Window) → Every Finite ws → (logs : List Float) → ((k : ℕ) → T (fits binary32 (getD logs k nan))) → lawfulLogs logs ≡ true
     → (bin : ℕ) → 1 ≤ bin → bin < length logs → openAt ws logs bin ≡ openedBy ws (getD logs bin nan)
 unfolding openAt openedBy ofBits
 full-scan ws F logs fit ok bin l h = scan (getD logs bin nan) bin (fit bin) (all-finite logs fit ok bin l h) l ws F 0 nought (zero-fits binary32 false) z-below-z

@@ -1,4 +1,5 @@
 pub mod Answers
+pub mod Asked
 pub mod Calls
 pub mod Demand1
 pub mod Demand3
