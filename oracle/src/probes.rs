@@ -1,5 +1,5 @@
 //! The list of probes: a single function of the port, `rk_probe_NAME` in the archive `libprobe.a`,
-//! and the Rust that it must equal bit for bit. A later layer adds its rows here.
+//! and the Rust that it must equal bit for bit. A layer has its rows here.
 use crate::bits::Bits;
 use crate::exact;
 use crate::field::Settings;

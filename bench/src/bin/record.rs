@@ -12,7 +12,7 @@ mod measured {
     const SAMPLE: u64 = 123_456_789;
 
     /// What both sides do for a frame with so many windows.
-    fn row(windows: usize, bar: &str) {
+    fn row(windows: usize) {
         let logs = logs(BINS);
         let workspace = MaskWorkspace {
             bin_log2_hz: logs.clone(),
@@ -54,7 +54,7 @@ mod measured {
         assert!(apart < 0.006, "entries {apart} from the gains");
         let of = format!("{BINS} bins, {windows:3} windows");
         println!(
-            "a record written, {of}   {written:7.2} us, Rust's gains {rust:7.2} us, ratio {:5.2} (bar {bar})",
+            "a record written, {of}   {written:7.2} us, Rust's gains {rust:7.2} us, ratio {:5.2}",
             written / rust
         );
         println!(
@@ -64,8 +64,8 @@ mod measured {
     }
 
     pub fn run() {
-        for (windows, bar) in [(0, "none"), (16, "none"), (64, "1.3"), (192, "none")] {
-            row(windows, bar);
+        for windows in [0, 16, 64, 192] {
+            row(windows);
         }
     }
 }

@@ -48,7 +48,7 @@ fn row(name: &str, events: &[Event]) {
     }
     let [a, b] = least.map(|time| time / events.len() as f64);
     println!(
-        "{name:34} {a:6.2} ns, Rust {b:6.2} ns, ratio {:5.2} (bar 2), {:5.0} MB/s",
+        "{name:34} {a:6.2} ns, Rust {b:6.2} ns, ratio {:5.2}, {:5.0} MB/s",
         a / b,
         bytes.len() as f64 / least[0] * 1000.0
     );
