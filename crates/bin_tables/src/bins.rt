@@ -36,7 +36,7 @@ fn fill(bin_hz: f32, table: &mut [f32])
     }
 }
 
-// The Rust's `MaskWorkspace::prepare`, with its panics as refusals.
+// The table that the Rust's `MaskWorkspace::prepare` fills, in lent places; 01 adds the refusals.
 pub fn bin_table(sample_rate: f32, fft_size: usize, table: &mut [f32]) -> Answer
     ensures { λ r. ⌜ (r, now (table .exit)) ≡ preparedOf «sample_rate» «fft_size» (now (table .entry)) ⌝ }
 {

@@ -10,4 +10,11 @@ use Rattle.promises.specs.Asked.{Asked}
 
 pub asked : Asked
 unfolding ofBits ofFields
-asked = record { advance-joins = advance-joins; walk-is-scan = full-scan; log2-never-falls = log2-rises; exp-to-one = in-unit exp-like; exp64-to-one = in-unit exp64-like }
+asked =
+    record {
+      advance-joins = λ e m n a b. advance-joins e m n a b;
+      walk-is-scan = λ ws all logs fit ok bin l h. full-scan ws all logs fit ok bin l h;
+      log2-never-falls = λ x y f g h k. log2-rises x y f g h k;
+      exp-to-one = λ x h. in-unit exp-like x h;
+      exp64-to-one = λ x h. in-unit exp64-like x h;
+    }

@@ -110,4 +110,10 @@ over-calls start b cs t i h =
 
 -- THE PROMISE
 pub demand3 : Demand3
-demand3 = record { calls-are-acts = calls-are-acts; runs-are-acts = run-is; moments = at-moment; calls = over-calls }
+demand3 =
+    record {
+      calls-are-acts = λ e c. calls-are-acts e c;
+      runs-are-acts = λ e cs. run-is e cs;
+      moments = λ start b cs t before after split. at-moment start b cs t before after split;
+      calls = λ start b cs t i h. over-calls start b cs t i h;
+    }
