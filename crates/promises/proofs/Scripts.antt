@@ -47,7 +47,8 @@ use Rattle.runs.specs.Acts.{Call, Single, Typed, applied}
 use Rattle.promises.specs.Life.{Held}
 use Rattle.promises.specs.Runs.{run, history, AllTyped, Begins, new, reset}
 use Rattle.promises.specs.Demand3.{AtMoment, OverCalls}
-use Rattle.promises.specs.Scripts.{Event, make, restart, call, eventOf, Course, reached, begunAt, movedBy, courseFrom, courseOf, Scripts}
+use Rattle.promises.specs.Scripts.{Move, make, restart, call, moveOf, Course, reached, begunAt, movedBy, courseFrom, courseOf, Scripts}
+use Rattle.promises.proofs.Calls.{until}
 use Rattle.promises.proofs.Demand3.{run-is, demand3}
 
 -- ---- a field: the engine after it is the engine of the call's answer
@@ -75,12 +76,12 @@ framed-engine before f = go (f .answer)
     go (A.Refused r) = refl
 
 -- what an event does to an engine
-abbrev after : Engine → Event → Engine
+abbrev after : Engine → Move → Engine
 after e (make x) = newEngineOf x .engine
 after e restart = resetOf e
 after e (call c) = applied e c
 
-step-engine : (before : Run) (f : Field) → stepOf before f .run .engine ≡ after (before .engine) (eventOf f)
+step-engine : (before : Run) (f : Field) → stepOf before f .run .engine ≡ after (before .engine) (moveOf f)
 unfolding stepOf applied
 step-engine before (F.Rate x) = done-engine before (newEngineOf x)
 step-engine before (F.Configure c) = done-engine before (configuredOf (before .engine) c)
@@ -102,29 +103,29 @@ unfolding run
 run-append e [] ys = refl
 run-append e (x ∷ xs) ys = run-append (applied e x) xs ys
 
-moved-on : (k : Course) (e : Engine) (v : Event) → e ≡ reached k → after e v ≡ reached (movedBy k v)
+moved-on : (k : Course) (e : Engine) (v : Move) → e ≡ reached k → after e v ≡ reached (movedBy k v)
 unfolding run
 moved-on k e (make x) q = refl
 moved-on k e restart q = ap resetOf q
 moved-on k e (call c) q = ap (λ (x : Engine). applied x c) q ∙ sym (run-append (k .start) (k .calls) (c ∷ []))
 
-calls-on : (k : Course) (fs : List Field) (cs : List Call) → map eventOf fs ≡ map call cs → reached (courseFrom k fs) ≡ run (reached k) cs
+calls-on : (k : Course) (fs : List Field) (cs : List Call) → map moveOf fs ≡ map call cs → reached (courseFrom k fs) ≡ run (reached k) cs
 unfolding courseFrom run
 calls-on k [] [] q = refl
 calls-on k [] (c ∷ cs) q = absurd (let z : _≡_ {A = ℕ} 0 1 = cc in omega arith)
 calls-on k (f ∷ fs) [] q = absurd (let z : _≡_ {A = ℕ} 0 1 = cc in omega arith)
 calls-on k (f ∷ fs) (c ∷ cs) q =
-    let one : eventOf f ≡ call c = cc in
-    let rest : map eventOf fs ≡ map call cs = cc in
-    calls-on (movedBy k (eventOf f)) fs cs rest
-    ∙ ap (λ (e : Engine). run e cs) (ap (λ (v : Event). reached (movedBy k v)) one ∙ sym (moved-on k (reached k) (call c) refl))
+    let one : moveOf f ≡ call c = cc in
+    let rest : map moveOf fs ≡ map call cs = cc in
+    calls-on (movedBy k (moveOf f)) fs cs rest
+    ∙ ap (λ (e : Engine). run e cs) (ap (λ (v : Move). reached (movedBy k v)) one ∙ sym (moved-on k (reached k) (call c) refl))
 
 course-append : (k : Course) (xs ys : List Field) → courseFrom k (xs ++ ys) ≡ courseFrom (courseFrom k xs) ys
 unfolding courseFrom
 course-append k [] ys = refl
-course-append k (x ∷ xs) ys = course-append (movedBy k (eventOf x)) xs ys
+course-append k (x ∷ xs) ys = course-append (movedBy k (moveOf x)) xs ys
 
-goes-on : (s : List ℕ) (before between after : List Field) → events (onward 1 0 s) ≡ before ++ between ++ after → (cs : List Call) → map eventOf between ≡ map call cs
+goes-on : (s : List ℕ) (before between after : List Field) → events (onward 1 0 s) ≡ before ++ between ++ after → (cs : List Call) → map moveOf between ≡ map call cs
     → reached (courseOf s (length (before ++ between))) ≡ run (reached (courseOf s (length before))) cs
 goes-on s before between after q cs h =
     let k = begunAt (fresh .engine) in
@@ -154,11 +155,11 @@ module _ (p : Placed) (before : Run) (n : ℕ) where
   abbrev pub turnAt : Turn
   turnAt = repliedOf n (p .size) (stepOf before (p .field) .run) (stepOf before (p .field) .reply)
 
-  pub turn-moved : (k : Course) → before .engine ≡ reached k → turnAt .run .engine ≡ reached (movedBy k (eventOf (p .field)))
+  pub turn-moved : (k : Course) → before .engine ≡ reached k → turnAt .run .engine ≡ reached (movedBy k (moveOf (p .field)))
   turn-moved k q =
       ap (λ (r : Run). r .engine) (replied-run n (p .size) (stepOf before (p .field) .run) (stepOf before (p .field) .reply))
       ∙ step-engine before (p .field)
-      ∙ moved-on k (before .engine) (eventOf (p .field)) q
+      ∙ moved-on k (before .engine) (moveOf (p .field)) q
 
 over-is-run : (ps : List Placed) (v : Verdict) (before : Run) (n : ℕ) (k : Course) → before .engine ≡ reached k → (ts us : List Turn) (t : Turn) → turnsOver before n ps v ≡ ts ++ t ∷ us
     → t .run .engine ≡ reached (courseFrom k (take (suc (length ts)) (map (λ (p : Placed). p .field) ps)))
@@ -173,7 +174,7 @@ over-is-run (p ∷ ps) v before n k q (u ∷ ts) us t h =
     let rest : cond (eqb (here .taken) 0) [] (turnsOver (here .run) (n + 1) ps v) ≡ ts ++ t ∷ us = cc in
     by-case (eqb (here .taken) 0)
     (λ y. nothing-after ts us t (rw y at rest))
-    (λ y. over-is-run ps v (here .run) (n + 1) (movedBy k (eventOf (p .field))) (turn-moved p before n k q) ts us t (rw y at rest))
+    (λ y. over-is-run ps v (here .run) (n + 1) (movedBy k (moveOf (p .field))) (turn-moved p before n k q) ts us t (rw y at rest))
 
 turn-is-run : (s : List ℕ) (before after : List Turn) (t : Turn) → turnsOf s ≡ before ++ t ∷ after → t .run .engine ≡ reached (courseOf s (suc (length before)))
 unfolding run
@@ -182,13 +183,13 @@ turn-is-run s before after t h =
     over-is-run (r .fields) (r .verdict) fresh 1 (begunAt (fresh .engine)) refl before after t (sym (turns-follow s) ∙ h)
 
 -- ---- what the reader hands over is typed
-abbrev TypedEvent : Event → Type 0
-TypedEvent (make x) = Single x
-TypedEvent restart = Unit {0}
-TypedEvent (call c) = Typed c
+abbrev TypedMove : Move → Type 0
+TypedMove (make x) = Single x
+TypedMove restart = Unit {0}
+TypedMove (call c) = Typed c
 
 abbrev TypedField : Field → Type 0
-TypedField f = TypedEvent (eventOf f)
+TypedField f = TypedMove (moveOf f)
 
 single : (v : List ℕ) (i : ℕ) → Single (f32At v i)
 single v i = ofBits-fits binary32 (be32 v i)
@@ -227,7 +228,7 @@ typed-append : (cs : List Call) (c : Call) → AllTyped cs → Typed c → AllTy
 typed-append [] c t u = (u, tt)
 typed-append (d ∷ cs) c t u = (t .0, typed-append cs c (t .1) u)
 
-moved-spoken : (k : Course) (v : Event) → Spoken k → TypedEvent v → Spoken (movedBy k v)
+moved-spoken : (k : Course) (v : Move) → Spoken k → TypedMove v → Spoken (movedBy k v)
 moved-spoken k (make x) a t = (new x t, tt)
 moved-spoken k restart a t = (reset (k .start) (k .calls) (a .0) (a .1), tt)
 moved-spoken k (call c) a t = (a .0, typed-append (k .calls) c (a .1) t)
@@ -235,7 +236,7 @@ moved-spoken k (call c) a t = (a .0, typed-append (k .calls) c (a .1) t)
 course-spoken : (k : Course) (fs : List Field) → Spoken k → Every TypedField fs → Spoken (courseFrom k fs)
 unfolding courseFrom
 course-spoken k [] a t = a
-course-spoken k (f ∷ fs) a t = course-spoken (movedBy k (eventOf f)) fs (moved-spoken k (eventOf f) a (t .0)) (t .1)
+course-spoken k (f ∷ fs) a t = course-spoken (movedBy k (moveOf f)) fs (moved-spoken k (moveOf f) a (t .0)) (t .1)
 
 spoken : (s : List ℕ) (n : ℕ) → Spoken (courseOf s n)
 unfolding fresh
@@ -267,4 +268,6 @@ scripts =
       typed = λ s n. spoken s n .1;
       goes-on = goes-on;
       demand3 = λ s before after t h. after-turn s (suc (length before)) (t .run .engine) (turn-is-run s before after t h);
+      holds = λ s before between after q cs h i held n.
+          subst (λ (e : Engine). Held e i) (sym (goes-on s before between after q cs h)) (until (reached (courseOf s (length before))) cs i held n .0);
     }

@@ -40,7 +40,7 @@ use Rattle.turns_laws.proofs.Follow.{turns-follow}
 use Rattle.listing.specs.Printed.{linesOf, lines}
 use Rattle.ending.specs.Ended.{badOf}
 use Rattle.promises.specs.Tests.{firstOf, badRate, testsOf, replyNumber}
-use Rattle.promises.specs.Scripts.{eventOf, Course, reached, begunAt, movedBy, courseFrom}
+use Rattle.promises.specs.Scripts.{moveOf, Course, reached, begunAt, movedBy, courseFrom}
 use Rattle.promises.specs.Stops.{verdictNumber, badNumber, badIn, refusedNumber, rateNumber, stopRows, goesOn, Through, Stops}
 use Rattle.promises.specs.Runs.{run}
 use Rattle.promises.proofs.Answers.{step-answers}
@@ -272,7 +272,7 @@ over-refused (p ∷ ps) v before n k q (u ∷ ts) us t h (g ∷ fs) gs f e l =
     let left : map (λ (x : Placed). x .field) ps ≡ fs ++ f ∷ gs = cc in
     by-case (eqb (here .taken) 0)
     (λ y. nothing-after ts us t (rw y at rest))
-    (λ y. over-refused ps v (here .run) (n + 1) (movedBy k (eventOf (p .field))) (turn-moved p before n k q) ts us t (rw y at rest) fs gs f left (omega arith))
+    (λ y. over-refused ps v (here .run) (n + 1) (movedBy k (moveOf (p .field))) (turn-moved p before n k q) ts us t (rw y at rest) fs gs f left (omega arith))
 
 -- THE PART OF DEMAND 1
 pub stops : (s : List ℕ) → Stops s

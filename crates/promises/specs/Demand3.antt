@@ -53,7 +53,7 @@ pub record DueFrame (e : Engine) (c : Call) (l : Life) : Type 0 where
   pub is-due : due e l ≡ true
 
 -- ---- at a moment
--- nothing changes a birth, a lifetime or a first retirement
+-- the same birth, the same lifetime and, where there was one, the same first retirement
 abbrev pub Fixed : Life → Life → Type 0
 Fixed l l′ = (l′ .birth ≡ l .birth) × (l′ .lifetime ≡ l .lifetime) × ((r : ℕ) → l .retired ≡ At r → l′ .retired ≡ At r)
 
@@ -65,6 +65,7 @@ pub record AtMoment (start : Engine) (acts : List Act) (e : Engine) : Type 0 whe
   -- no birth and no retirement lies after the sample: the differences in `age` and `faded` are plain ones
   pub past : (i : ℕ) → Held e i → elapsedOf (place e i .birth) (e .clock .sample) ≡ e .clock .sample - place e i .birth
   pub faded-since : (i : ℕ) → Held e i → (r : ℕ) → place e i .retirement ≡ At r → elapsedOf r (e .clock .sample) ≡ e .clock .sample - r
+  -- nothing changes a birth, a lifetime or a first retirement
   pub fixed : (later : List Act) (l l′ : Life) → story e later l ≡ living l′ → Fixed l l′
   -- over any later acts it keeps its place as long as no frame found it due
   pub keeps : (i : ℕ) → Held e i → (later : List Act) (l : Life) → story e later (lifeOf (place e i)) ≡ living l

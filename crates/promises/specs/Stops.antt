@@ -11,7 +11,7 @@ use Rattle.refusals.specs.declared.Refusal.the-variants.{Rate, Script}
 use Rattle.refusals.specs.Numbers.{numberOf, answerOf}
 use Rattle.fields.specs.declared.Field.{Field}
 use Rattle.script_reading.specs.Reading.{Verdict, ended, bad, onward}
-use Rattle.writer_laws.specs.Events.{isRate, events}
+use Rattle.writer_laws.specs.Events.{isRate}
 use Rattle.steps.specs.Steps.{fresh}
 use Rattle.lines.specs.declared.Line.{Line}
 use Rattle.lines.specs.declared.Line.the-variants as L
@@ -22,7 +22,11 @@ use Rattle.turns_laws.specs.Over.{lastLine}
 use Rattle.listing.specs.Printed.{linesOf, lines}
 use Rattle.ending.specs.Ended.{badOf}
 use Rattle.promises.specs.Tests.{Row, firstOf, testsOf}
-use Rattle.promises.specs.Scripts.{reached, courseOf}
+use Rattle.promises.specs.Scripts.{fieldsOf, reached, courseOf}
+
+-- why the reader stopped
+abbrev pub verdictOf : List ℕ → Verdict
+verdictOf s = onward 1 0 s .verdict
 
 -- ---- numbers
 abbrev pub verdictNumber : Verdict → ℕ
@@ -57,7 +61,7 @@ rateNumber (f ∷ fs) = firstOf (testsOf (fresh .engine) f)
 
 -- 1 where the engine refuses the rate, or else the number of the first bad field, 0 where there is none
 abbrev pub stopRows : List ℕ → List Row
-stopRows s = (not (eqb (rateNumber (events (onward 1 0 s))) 0), 1) ∷ (true, verdictNumber (onward 1 0 s .verdict)) ∷ []
+stopRows s = (not (eqb (rateNumber (fieldsOf s)) 0), 1) ∷ (true, verdictNumber (verdictOf s)) ∷ []
 
 -- ---- turns
 -- after such a line the next field is read
@@ -73,9 +77,9 @@ pub record Through (s : List ℕ) : Type 0 where
   pub turns : List Turn
   pub last : Turn
   pub split : turnsOf s ≡ turns ++ last ∷ []
-  pub one-each : length turns ≡ length (events (onward 1 0 s))
+  pub one-each : length turns ≡ length (fieldsOf s)
   pub go-on : Every (λ (t : Turn). goesOn (t .line) ≡ true) turns
-  pub at-last : last .line ≡ lastLine (suc (length turns)) (onward 1 0 s .verdict)
+  pub at-last : last .line ≡ lastLine (suc (length turns)) (verdictOf s)
 
 pub record Stops (s : List ℕ) : Type 0 where
   -- the listing's number, 12 first: a script above 60,000 bytes has the one line `field 0 bad 12`
@@ -84,11 +88,11 @@ pub record Stops (s : List ℕ) : Type 0 where
   -- and the number for a host, which has judged 12 before
   pub number : answerOf (badOf (lastTurn s .line)) ≡ firstOf (stopRows s)
   -- a first field that is read is the rate; where the engine refuses it, the one line is `field 1 bad 1`
-  pub rate-first : (f : Field) (fs : List Field) → events (onward 1 0 s) ≡ f ∷ fs → isRate f ≡ true
-  pub stopped : (rateNumber (events (onward 1 0 s)) ≡ 0 → ⊥) → linesOf (turnsOf s) ≡ L.Bad 1 Rate ∷ []
+  pub rate-first : (f : Field) (fs : List Field) → fieldsOf s ≡ f ∷ fs → isRate f ≡ true
+  pub stopped : (rateNumber (fieldsOf s) ≡ 0 → ⊥) → linesOf (turnsOf s) ≡ L.Bad 1 Rate ∷ []
   -- otherwise every field is taken up, a refused one too, until one is bad or the script ends
-  pub through : rateNumber (events (onward 1 0 s)) ≡ 0 → Through s
+  pub through : rateNumber (fieldsOf s) ≡ 0 → Through s
   -- a field's line says a refusal exactly when the engine's tests give it
   pub refused : (before after : List Turn) (t : Turn) → turnsOf s ≡ before ++ t ∷ after
-      → (fs gs : List Field) (f : Field) → events (onward 1 0 s) ≡ fs ++ f ∷ gs → length fs ≡ length before
+      → (fs gs : List Field) (f : Field) → fieldsOf s ≡ fs ++ f ∷ gs → length fs ≡ length before
       → refusedNumber (t .line) ≡ firstOf (testsOf (reached (courseOf s (length before))) f)
