@@ -53,6 +53,7 @@ use Rattle.promises.proofs.Triggers as fires
 use Rattle.promises.proofs.Stops.{stops}
 use Rattle.promises.proofs.Writing.{listed-by, unlisted-by, written-by, unwritten-by}
 use Rattle.promises.specs.Tests.{Row, firstOf, NoneHolds, Given, readNumber, badRecord, recordNumber, foundNumber, filedNumber}
+use Rattle.promises.specs.Stops.{stopRows}
 use Rattle.promises.specs.Demand1.{Demand1}
 
 -- ---- the first test that holds
@@ -226,12 +227,12 @@ field-read false first false false false true true false x k = refl
 field-read false first false false false true true true x k = refl
 
 -- ---- a whole script
-entered : (a b : Bool) (x y : Ended) → y .answer ≡ Refused Script
-    → answerOf (pick a (cond b x y .answer) (Refused Lengths)) ≡ firstOf ((not a, 5) ∷ (not b, 12) ∷ (true, answerOf (x .answer)) ∷ [])
+entered : (a b : Bool) (x y : Ended) → y .answer ≡ Refused Script → (rows : List Row) → answerOf (x .answer) ≡ firstOf rows
+    → answerOf (pick a (cond b x y .answer) (Refused Lengths)) ≡ firstOf ((not a, 5) ∷ (not b, 12) ∷ rows)
 unfolding firstOf pick
-entered false b x y h = refl
-entered true false x y h = ap answerOf h
-entered true true x y h = refl
+entered false b x y h rows k = refl
+entered true false x y h rows k = ap answerOf h
+entered true true x y h rows k = k
 
 unwritten : (a : Answer) (bytes o : List ℕ) → (answerOf a ≡ 0 → ⊥) → ifTaken a bytes o ≡ o
 unwritten Taken bytes o n = absurd (n refl)
@@ -291,7 +292,7 @@ demand1 =
           field-read (eqb (length s) 0) first (ltb (length s) 3) (misplaced (getD s 0 0) first) (unknown (getD s 0 0)) (eqb (be16 s 1) (lengthOf k)) (leb (lengthOf k) (length s - 3)) (lawful k (drop 3 s)) _ _;
       step = step-answers;
       script = stops;
-      entry = λ s o. entered (eqb (length o) 2308) (leb (length s) 60000) _ _ refl;
+      entry = λ s o. entered (eqb (length o) 2308) (leb (length s) 60000) _ _ refl (stopRows s) (stops s .number);
       entry-leaves = entry-unwritten;
       list = listed-by;
       list-leaves = unlisted-by;

@@ -74,10 +74,6 @@ record Goes (run : Run) (n : ℕ) (r : Reading) : Type 0 where
   go-on : Every (λ (t : Turn). goesOn (t .line) ≡ true) turns
   at-last : last .line ≡ lastLine (n + length turns) (r .verdict)
 
--- a turn in front of them
-in-front : (t : Turn) (n : ℕ) (ts : List Turn) → n + suc (length ts) ≡ n + 1 + length ts
-in-front t n ts = omega arith
-
 from-second : {n at : ℕ} {s : List ℕ} {r : Reading} → Reads n at s r → 2 ≤ n → (run : Run) → Goes run n r
 unfolding turnsOver
 from-second {n} (field {f = f} {k = k} {r = r} e lo hi d) h run =
@@ -92,7 +88,7 @@ from-second {n} (field {f = f} {k = k} {r = r} e lo hi d) h run =
       split = rw took (ap {B = List Turn} (λ (ts : List Turn). t ∷ ts) (rest .split));
       one-each = ap suc (rest .one-each);
       go-on = (goes n k (stepOf run f .run) l a, rest .go-on);
-      at-last = rest .at-last ∙ ap (λ (m : ℕ). lastLine m (r .verdict)) (sym (in-front t n (rest .turns)));
+      at-last = rest .at-last ∙ ap (λ (m : ℕ). lastLine m (r .verdict)) (omega arith);
     }
 from-second {n} (wrong {c = c} e) h run = record { turns = []; last = toldOf run (L.Bad n c) 0; split = refl; one-each = refl; go-on = tt; at-last = ap (λ (m : ℕ). L.Bad m c) (omega arith) }
 from-second {n} (end e) h run = record { turns = []; last = toldOf run (lastLine n ended) 0; split = refl; one-each = refl; go-on = tt; at-last = ap (λ (m : ℕ). lastLine m ended) (omega arith) }

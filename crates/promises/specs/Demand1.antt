@@ -43,13 +43,11 @@ use Rattle.text.specs.Put.{bufferOf}
 use Rattle.writer.specs.Encoded.{encoded}
 use Rattle.writer.specs.Written.{writtenOf}
 use Rattle.listing.specs.Listed.{roomFor, listedOf, leftIn}
-use Rattle.ending.specs.Ended.{badOf}
-use Rattle.turns.specs.Last.{lastTurn}
 use Rattle.turns.specs.Turns.{turnsOf}
 use Rattle.entry.specs.Entry.{entryAnswer, entryBytes}
 use Rattle.promises.specs.Tests.{Row, firstOf, Given, badRate, badSlot, pastLimit, badSeconds, badRecord, testsOf, replyNumber, readNumber, listedNumber, recordNumber, foundNumber, filedNumber, Kept}
 use Rattle.promises.specs.Triggers.{Places, answered, Settled}
-use Rattle.promises.specs.Stops.{Stops}
+use Rattle.promises.specs.Stops.{stopRows, Stops}
 
 pub record Demand1 : Type 0 where
   -- an equation with `firstOf` is the exact condition both ways
@@ -139,8 +137,7 @@ pub record Demand1 : Type 0 where
   -- a whole script: where it stops, with which number, and that it goes on until then
   pub script : (s : List ℕ) → Stops s
   -- a whole script, for a host: 5, 12, or the number of the field that stopped it
-  pub entry : (s o : List ℕ)
-      → answerOf (entryAnswer s o) ≡ firstOf ((not (eqb (length o) 2308), 5) ∷ (not (leb (length s) 60000), 12) ∷ (true, answerOf (badOf (lastTurn s .line))) ∷ [])
+  pub entry : (s o : List ℕ) → answerOf (entryAnswer s o) ≡ firstOf ((not (eqb (length o) 2308), 5) ∷ (not (leb (length s) 60000), 12) ∷ stopRows s)
   pub entry-leaves : (s o : List ℕ) → (answerOf (entryAnswer s o) ≡ 0 → ⊥) → entryBytes s o ≡ o
   -- the listing of a script: 13 where the lent buffer has no room for the longest listing of so many bytes
   pub list : (s o : List ℕ) → listedNumber (listedOf (length o) s) ≡ firstOf ((ltb (length o) (roomFor (length s)), 13) ∷ [])
