@@ -7,19 +7,19 @@ use Rattle.floats.specs.Names.{f32, add32, sub32, mul32, div32}
 use Rattle.draws.specs.Draws.{randomOf}
 use Rattle.elementary.specs.Log2.{log2Of}
 use Rattle.powers.specs.Power.{exp2}
-use Rattle.octaves.specs.declared.Register.{Register}
-use Rattle.octaves.specs.Octave.{registerOf}
-use Rattle.harmonics.specs.Partials.{partialsOf}
-use Rattle.registers.specs.Register as register
+use Rattle.pitch.specs.declared.octaves.Register.{Register}
+use Rattle.pitch.specs.Octave.{registerOf}
+use Rattle.pitch.specs.Partials.{partialsOf}
+use Rattle.pitch.specs.Register as register
 use Rattle.pool.specs.declared.Particle.{Particle}
 use Rattle.pool.specs.declared.Retired.the-variants.{Not}
 use Rattle.settings.specs.declared.Config.{Config}
 use Rattle.settings.specs.declared.Direction.{Direction}
 use Rattle.settings.specs.declared.Shape.{Shape}
 use Rattle.settings.specs.declared.Shape.the-variants.{Sprinkle, Cloud}
-use Rattle.envelopes.specs.Envelope.{envelopeOf}
-use Rattle.voices.specs.declared.Voice.{Voice}
-use Rattle.voices.specs.Voices.{rate32, maxHzOf}
+use Rattle.settings.specs.Envelope.{envelopeOf}
+use Rattle.births.specs.declared.voices.Voice.{Voice}
+use Rattle.births.specs.Voices.{rate32, maxHzOf}
 
 -- ---- octave and register_strength
 -- if sprinkle { sprinkle_register(..) } else { (0.0, register_strength(frequency_hz.log2())) }

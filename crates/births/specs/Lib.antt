@@ -1,1 +1,4 @@
 pub mod Births
+pub mod Birth
+pub mod Arrival
+pub mod Voices

@@ -1,14 +1,20 @@
 // What a birth makes: a new particle, from the settings, the clock and the voice at its birth.
 ghost use mathlib.Core.Path.{_≡_};
 ghost use Rattle.births.specs.Births.{registerBy, widthOf, openingOf, strengthOf, ratioOf, partialsBy, powerBy, newbornOf};
-use envelopes::Contour;
 use pitch::Register;
 use pool::Particle;
 use pool::Retired;
 use settings::Config;
+use settings::Contour;
 use settings::Direction;
 use settings::Shape;
 use voices::Voice;
+
+mod arrivals;
+mod voices;
+
+pub use arrivals::birth;
+pub use voices::max_hz;
 
 pub const SPRINKLE_DECAY_POWER: u32 = 3;
 
@@ -110,7 +116,7 @@ pub fn newborn(
     let direction = config.direction;
     let hz = voice.frequency_hz;
     let max_hz = voices::max_hz(sample_rate);
-    let contour = envelopes::envelope(config, index, floats::f64_to_f32(sample_rate));
+    let contour = settings::envelope(config, index, floats::f64_to_f32(sample_rate));
     let register = register(shape, index, hz, max_hz, direction);
     let width = width(shape, config.size_octaves, index);
     let strength = strength(shape, voice.strength, register.strength, index);

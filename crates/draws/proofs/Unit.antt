@@ -17,7 +17,7 @@ use lib.Ieee.Order.{le-of-values}
 use lib.Ieee.Scale.{round-same}
 use borrow.Author.Tests.{lt-ltb}
 use denote.Floats.{passes}
-use Rattle.words.specs.Word.{product}
+use Rattle.floats.specs.Word.{product}
 use Rattle.floats.proofs.Order.{lt-values}
 use Rattle.floats_laws.proofs.Rules.{lt→le}
 use Rattle.floats_laws.proofs.Rising.{nought}

@@ -6,7 +6,7 @@ use lib.ListN.{getD}
 use lib.Bits.{bitOr, bitXor}
 use lib.Ieee.{Float, binary32, ofInt}
 use Rattle.floats.specs.Names.{f32, div32}
-use Rattle.words.specs.Word.{product}
+use Rattle.floats.specs.Word.{product}
 
 -- SplitMix64, the output function: `z = (z ^ (z >> 30)) * C1; z = (z ^ (z >> 27)) * C2; return z ^ (z >> 31);` on 64-bit words
 unfoldable pub mixOf : ℕ → ℕ

@@ -16,7 +16,7 @@ use Rattle.floats_laws.proofs.Naturals.{le-or-lt}
 use Rattle.floats_laws.proofs.Patterns.{val, bits-value}
 use Rattle.floats_laws.proofs.PositiveBits.{positive-above, positive-under}
 use Rattle.floats_laws.proofs.Rescaled.{rescale, one-value, powers-join, powers-move}
-use Rattle.casts.proofs.Values.{unique}
+use Rattle.floats.proofs.Values.{unique}
 use Rattle.elementary.specs.Rung.{rungOf, digitsOf}
 use Rattle.elementary.specs.Sqrt.{Nearest, nearestRoot, scaledOf, rootBits, sqrtOf, Rounded}
 use Rattle.elementary.proofs.Rungs.{amount, Parts, parts}

@@ -11,7 +11,7 @@ use lib.Dec.{T, eqb, eqb→eq, ltb→lt, lt→ltb}
 use lib.Ieee.{Float, nan, inf, fin, binary32, up, down, isNan, ne, lt, le, eq, level, toBits}
 use lib.Ieee.Fits.{up-pos, and-l}
 use lib.Ieee.Positive.{positive, above, above-of-le}
-use Rattle.casts.proofs.Facts.{ne-self}
+use Rattle.floats.proofs.Facts.{ne-self}
 use Rattle.elementary.specs.Log2.{logOf, log2Of}
 use borrow.Author.Tests.{ltb-false, le-ltb, ne-eqb}
 

@@ -6,6 +6,7 @@ ghost use Prim.Native.Nat.{_<_};
 ghost use Rattle.elementary.specs.Log2.{fractionOf, joinedOf, logOf, log2Of};
 use super::rung::digits;
 use super::rung::rung;
+use crate::parabolas;
 
 // log2 (1 + p / 2^23) in units of 2^-24.
 fn fraction(p: u64) -> u64

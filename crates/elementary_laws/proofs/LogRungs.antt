@@ -18,7 +18,7 @@ use lib.Ieee.Scale.{finite, round-same}
 use Rattle.floats_laws.proofs.Rescaled.{powers-join}
 use Rattle.floats_laws.proofs.Rules.{add-number, finite-number, le-trans}
 use Rattle.floats_laws.proofs.Rising.{add-rises}
-use Rattle.lists.specs.All.{all, all-at}
+use Rattle.sequences.specs.All.{all, all-at}
 
 -- ---- f units of 2^-24, exact
 abbrev part : ℕ → Float

@@ -12,7 +12,7 @@ use lib.Ieee.Positive.{positive, positive-finite}
 use Rattle.floats_laws.proofs.Numbers.{div-number, positive-lt}
 use Rattle.floats_laws.proofs.Rising.{div-rises}
 use Rattle.floats_laws.proofs.Rules.{le-trans}
-use Rattle.lists.specs.All.{all, all-at}
+use Rattle.sequences.specs.All.{all, all-at}
 use Rattle.floats_laws.proofs.Same.{same, same→≡}
 use Rattle.powers.specs.Placed.{edged, placed}
 use Rattle.powers.specs.PowerCells.{starts, slopes, bends, startOf, slopeOf, bendOf}

@@ -13,7 +13,7 @@ use lib.Ieee.Digits.{back}
 use lib.Ieee.Positive.{positive}
 use Rattle.floats_laws.proofs.Naturals.{le-or-lt}
 use Rattle.floats_laws.proofs.Rescaled.{rescale, one-value, powers-join, powers-move}
-use Rattle.casts.proofs.Values.{fine, steps, steps-are}
+use Rattle.floats.proofs.Values.{fine, steps, steps-are}
 use Rattle.elementary.specs.Sqrt.{square, Nearest, sqrtOf, Rounded, Closest}
 use Rattle.elementary.proofs.RootNearest.{sqrt-rounds}
 use Rattle.elementary.proofs.Rungs.{rungs-le}

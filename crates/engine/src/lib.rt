@@ -1,13 +1,20 @@
 // The engine's calls, all but `frame`: an engine goes in and comes back.
+mod changes;
+mod counts;
+mod make;
+mod sample;
+mod source_calls;
 mod time;
+mod triggers;
+mod waiting;
 
-pub use basics::active_count;
-pub use basics::elapsed_samples;
-pub use basics::new_engine;
-pub use basics::reset;
 pub use changes::configure;
 pub use changes::seek;
 pub use changes::set_note_input_present;
+pub use counts::active_count;
+pub use counts::elapsed_samples;
+pub use make::new_engine;
+pub use make::reset;
 pub use source_calls::release_source;
 pub use source_calls::retire_source;
 pub use source_calls::set_source;

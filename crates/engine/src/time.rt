@@ -1,6 +1,8 @@
 // `advance`: up to the next start only the clock moves; a sample at which something is due is a whole one.
 ghost use mathlib.Core.Path.{_≡_};
 ghost use Rattle.engine.specs.Advance.{advancedOf};
+use crate::sample;
+use crate::waiting;
 use refusals::Answer;
 use refusals::Refusal;
 use settings::Shape;
@@ -46,10 +48,10 @@ pub fn advance(engine: Engine, samples: u64) -> Done
             let reference = moved.phase + moved.phase_offset;
             match shape {
                 Shape::Sprinkle => {
-                    out = delivery::lanes(out, reference);
+                    out = sample::lanes(out, reference);
                 }
                 Shape::Cloud => {
-                    out = delivery::cloud(out, reference);
+                    out = sample::cloud(out, reference);
                 }
             }
         }

@@ -7,9 +7,9 @@ use lib.Dec.{ltb}
 use lib.Ieee.{Float}
 use lib.ListN.{length, drop, getD, drop-of-length-le}
 use borrow.Author.Tests.{le-leb, ltb-true}
-use Rattle.lists.specs.Default.{getD-any}
-use Rattle.lists.specs.Pick.{pick, by-case}
-use Rattle.lists.specs.Table.{length-table}
+use Rattle.sequences.specs.Default.{getD-any}
+use Rattle.sequences.specs.Pick.{pick, by-case}
+use Rattle.sequences.specs.Table.{length-table}
 use Rattle.text.specs.Put.{bufferOf}
 use Rattle.windows.specs.declared.Window.{Window}
 use Rattle.windows.specs.declared.Frame.{Frame}

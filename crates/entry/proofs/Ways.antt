@@ -4,12 +4,12 @@ use mathlib.Core.Path.{_≡_}
 use mathlib.Core.List.{List}
 use lib.ListN.{length}
 use borrow.Author.Tests.{eq-eqb, ne-eqb}
-use Rattle.lists.specs.Pick.{pick}
+use Rattle.sequences.specs.Pick.{pick}
 use Rattle.refusals.specs.declared.Answer.{Answer}
 use Rattle.refusals.specs.declared.Answer.the-variants.{Refused}
 use Rattle.refusals.specs.declared.Refusal.the-variants.{Lengths}
-use Rattle.ending.specs.declared.Ended.{Ended}
-use Rattle.ending.specs.Ended.{ranOf}
+use Rattle.listing.specs.declared.ending.Ended.{Ended}
+use Rattle.listing.specs.Ended.{ranOf}
 use Rattle.entry.specs.Entry.{frameBytes, ifTaken, entryAnswer, entryBytes}
 
 module _ (s o : List ℕ) where

@@ -4,15 +4,15 @@ use mathlib.Core.List.{List}
 use lib.Dec.{eqb, ltb}
 use lib.Ieee.{Float, binary32, toBits}
 use lib.ListN.{length, getD}
-use Rattle.lists.specs.Pick.{pick}
-use Rattle.lists.specs.Table.{table}
+use Rattle.sequences.specs.Pick.{pick}
+use Rattle.sequences.specs.Table.{table}
 use Rattle.refusals.specs.declared.Answer.{Answer}
 use Rattle.refusals.specs.declared.Answer.the-variants.{Taken, Refused}
 use Rattle.refusals.specs.declared.Refusal.the-variants.{Lengths}
 use Rattle.windows.specs.declared.Frame.{Frame}
 use Rattle.windows.specs.declared.Window.{Window}
 use Rattle.windows.specs.Opening.{none}
-use Rattle.ending.specs.Ended.{ranOf}
+use Rattle.listing.specs.Ended.{ranOf}
 
 -- a window is centre, radius, amplitude
 unfoldable pub partOf : Window → ℕ → Float

@@ -2,7 +2,7 @@
 ghost use mathlib.Core.Path.{_≡_};
 ghost use Rattle.text.specs.Put.{placeOf, bufferOf};
 ghost use Rattle.entry.specs.Entry.{partOf, wordOf, digitOf, byteOf, bytesOf, frameBytes, entryAnswer, entryBytes};
-use ending::Ended;
+use listing::Ended;
 use refusals::Answer;
 use refusals::Refusal;
 use windows::Frame;
@@ -85,7 +85,7 @@ pub fn last_frame(script: &[u8], out: &mut [u8]) -> Answer
     if out.len() != FRAME_BYTES {
         return Answer::Refused(Refusal::Lengths);
     }
-    let ended = ending::run_script(script);
+    let ended = listing::run_script(script);
     let answer = ended.answer;
     let frame = ended.frame;
     match answer {

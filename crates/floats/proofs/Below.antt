@@ -6,7 +6,7 @@ use mathlib.Core.Bool.{Bool, true, false, _||_, _&&_}
 use lib.Dec.{ltb, eqb}
 use lib.Ieee.{Float, nan, inf, fin, below, level, up, down, lt, le, eq}
 use borrow.Author.Tests.{ltb-true, le-ltb, ne-eqb, eqb-true}
-use Rattle.casts.proofs.Sat.{no}
+use Rattle.floats.proofs.Sat.{no}
 
 -- of two sizes with their signs
 below-not-above : (s t : Bool) (a b : ℕ) → below s a t b ≡ true → (below t b s a || level t b s a) ≡ false

@@ -12,9 +12,9 @@ use lib.Ieee.{Float, Format, binary64, prec, emax, low, hid, top, round, neg, fi
 use lib.Ieee.Fits.{round-fits}
 use lib.Ieee.Bits.{ofBits-toBits, toBits-lt}
 use lib.Ieee.Exact.{HasValue, round-exact}
-use Rattle.casts.proofs.Pack.{pattern, limit, pow-lt-back}
-use Rattle.casts.proofs.Narrow.{signed}
-use Rattle.casts.proofs.Values.{neg-round}
+use Rattle.floats.proofs.Pack.{pattern, limit, pow-lt-back}
+use Rattle.floats.proofs.Narrow.{signed}
+use Rattle.floats.proofs.Values.{neg-round}
 use Rattle.floats.proofs.Residues.{parted}
 
 pub record Count (f : Format) (k q : ℕ) : Type 0 where

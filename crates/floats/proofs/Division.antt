@@ -11,8 +11,8 @@ use lib.Pow.{pow-pos, pow-mono, pow-add, shl-lt}
 use lib.Ieee.{Float, nan, inf, fin, binary64, round, rem, neg, fits, toBits, ofBits}
 use lib.Ieee.Exact.{HasValue}
 use lib.Ieee.Bits.{ofBits-toBits}
-use Rattle.casts.proofs.Narrow.{nan-above}
-use Rattle.casts.proofs.Pack.{inf-pattern}
+use Rattle.floats.proofs.Narrow.{nan-above}
+use Rattle.floats.proofs.Pack.{inf-pattern}
 use Rattle.floats.proofs.Residues.{places-off}
 use Rattle.floats.proofs.Count.{Count, count-value, count-pattern, turned, turned-round, by-size}
 use Rattle.floats.proofs.Rem.{rem-counts}

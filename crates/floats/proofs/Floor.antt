@@ -13,9 +13,9 @@ use lib.Ieee.Fits.{down-pos, round-fits, fits-widens}
 use lib.Ieee.Back.{round-whole, whole-unique}
 use lib.Ieee.Scale.{round-same}
 use Rattle.floats.specs.Whole.{floor, ceil, cut, lift}
-use Rattle.casts.proofs.Sat.{no}
-use Rattle.casts.proofs.Values.{fine, own-round, neg-round}
-use Rattle.choices.proofs.Rounded.{round-number}
+use Rattle.floats.proofs.Sat.{no}
+use Rattle.floats.proofs.Values.{fine, own-round, neg-round}
+use Rattle.floats.proofs.Rounded.{round-number}
 use Rattle.floats.proofs.Order.{lt-values}
 
 -- ---- quotients

@@ -4,7 +4,7 @@ use mathlib.Core.Bool.{Bool, true, false, cond}
 use lib.IntN.{pos}
 use lib.Dec.{T}
 use lib.Ieee.{Float, fin, Format, add, lt, le, fits}
-use Rattle.choices.specs.Choose.{abs}
+use Rattle.floats.specs.Choose.{abs}
 use Rattle.floats.specs.Remainder.{remEuclid}
 use Rattle.floats.proofs.Below.{le-not-lt}
 use Rattle.floats.proofs.Rem.{rem-inside}

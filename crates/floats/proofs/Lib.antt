@@ -8,3 +8,12 @@ pub mod RemExact
 pub mod Division
 pub mod Below
 pub mod Inside
+pub mod Facts
+pub mod Values
+pub mod Sat
+pub mod Pack
+pub mod Narrow
+pub mod SameBits
+pub mod Rounded
+pub mod Sign
+pub mod Words

@@ -11,8 +11,8 @@ use lib.Ieee.Fits.{down-pos, and-l, and-r}
 use lib.Ieee.Order.{round-mono}
 use lib.Ieee.Scale.{round-same}
 use borrow.Author.Tests.{ltb-true, ltb-false, le-ltb}
-use Rattle.casts.proofs.Sat.{no}
-use Rattle.casts.proofs.Values.{own-round}
+use Rattle.floats.proofs.Sat.{no}
+use Rattle.floats.proofs.Values.{own-round}
 
 or-l : (a b : Bool) → T (a || b) → (T a → ⊥) → T b
 or-l true b h k = absurd (k tt)

@@ -13,8 +13,8 @@ use lib.Ieee.Exact.{HasValue}
 use lib.Ieee.Positive.{first-pos}
 use lib.Ieee.Scale.{round-same}
 use borrow.Author.Tests.{ltb-true}
-use Rattle.casts.proofs.Sat.{no}
-use Rattle.casts.proofs.Values.{own-round}
+use Rattle.floats.proofs.Sat.{no}
+use Rattle.floats.proofs.Values.{own-round}
 use Rattle.floats.proofs.Residues.{mod-scaled}
 
 -- sizes A below B, with the same denominators

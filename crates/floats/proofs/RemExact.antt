@@ -11,7 +11,7 @@ use lib.Ieee.{Float, nan, inf, fin, Format, binary32, binary64, prec, low, up, d
 use lib.Ieee.Fits.{down-pos, rem-fits, fits-widens}
 use lib.Ieee.Exact.{HasValue, round-exact}
 use lib.Ieee.Digits.{back}
-use Rattle.casts.proofs.Values.{fine, steps, own-count, unique}
+use Rattle.floats.proofs.Values.{fine, steps, own-count, unique}
 use Rattle.floats.proofs.Residues.{gathered, mod-scaled, places-off}
 use Rattle.floats.proofs.Rem.{rest-counts}
 

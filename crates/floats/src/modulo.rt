@@ -5,9 +5,9 @@ ghost use mathlib.Core.Path.{_≡_};
 ghost use mathlib.Core.Bool.{false};
 ghost use Prim.Native.Nat.{_-_, _*_, _/_, _%_, _^_, _≤_, _<_};
 ghost use lib.Ieee.{binary32, binary64, rem, round};
-use casts::bits64;
-use casts::f32_to_f64;
-use choices::pick64;
+use crate::cast::f32_to_f64;
+use crate::choices::pick64;
+use crate::pattern::bits64;
 
 // How far the digits of the pattern p, which has no sign, are shifted up: its k.
 fn shift(p: u64) -> u64

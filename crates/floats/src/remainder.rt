@@ -4,12 +4,12 @@
 ghost use mathlib.Core.Path.{_≡_};
 ghost use lib.Ieee.{binary32, binary64, rem};
 ghost use Rattle.floats.specs.Remainder.{remEuclid};
+use crate::choices::abs32;
+use crate::choices::abs64;
+use crate::choices::pick32;
+use crate::choices::pick64;
 use crate::modulo::divided;
 use crate::modulo::divided32;
-use choices::abs32;
-use choices::abs64;
-use choices::pick32;
-use choices::pick64;
 
 pub fn rem32(x: f32, m: f32) -> f32
     ensures { λ r. ⌜ r ≡ rem binary32 x m ⌝ }

@@ -7,8 +7,8 @@ use lib.Ieee.Fits.{rem-fits, add-fits, cond-fits}
 use lib.Ieee.Scale.{finite}
 use lib.Ieee.Bits.{is-true}
 use borrow.Author.Tests.{le-ltb}
-use Rattle.lists.specs.Pick.{by-case}
-use Rattle.choices.specs.Choose.{clamp, abs}
+use Rattle.sequences.specs.Pick.{by-case}
+use Rattle.floats.specs.Choose.{clamp, abs}
 use Rattle.floats.specs.Remainder.{remEuclid}
 use Rattle.floats_laws.proofs.Keys.{key, lt-key}
 use Rattle.floats_laws.proofs.Rules.{le-left, le-right, le→key}

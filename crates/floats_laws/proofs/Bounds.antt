@@ -10,9 +10,9 @@ use lib.Pow.{pow-pos}
 use lib.Ieee.{Float, nan, inf, fin, Format, prec, up, down, round, add, sub, neg, sum, mul, div, lt, ofInt, isNan, unlike}
 use lib.Ieee.Fits.{down-pos}
 use denote.Floats.{passes}
-use Rattle.choices.specs.Choose.{max, min, abs}
-use Rattle.casts.specs.Convert.{convert}
-use Rattle.lists.specs.Pick.{by-case}
+use Rattle.floats.specs.Choose.{max, min, abs}
+use Rattle.floats.specs.Convert.{convert}
+use Rattle.sequences.specs.Pick.{by-case}
 use Rattle.floats_laws.proofs.Mag.{Mag, Upto, Least, least-pos, within, within-upto}
 
 -- ---- the sign

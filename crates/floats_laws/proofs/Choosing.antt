@@ -4,9 +4,9 @@ use lib.Dec.{T}
 use lib.Ieee.{Float, Format, lt, le, fits, isNan}
 use lib.Ieee.Bits.{is-false}
 use lib.Ieee.Fits.{cond-fits}
-use Rattle.lists.specs.Pick.{by-case}
-use Rattle.choices.specs.Choose.{max, min, clamp}
-use Rattle.choices.proofs.Rounded.{cond-number}
+use Rattle.sequences.specs.Pick.{by-case}
+use Rattle.floats.specs.Choose.{max, min, clamp}
+use Rattle.floats.proofs.Rounded.{cond-number}
 use Rattle.floats_laws.proofs.Rules.{le-left, le-right, lt→le, not-lt→le}
 use Rattle.floats_laws.proofs.Rising.{le-refl}
 

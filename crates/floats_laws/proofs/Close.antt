@@ -7,9 +7,9 @@ use mathlib.Core.Logic.{_⊎_, inl, inr}
 use lib.Dec.{ltb, lit<}
 use lib.Ieee.Nearest.{closest}
 use borrow.Author.Tests.{ltb-true, ltb-false}
-use Rattle.casts.specs.Convert.{apart}
-use Rattle.casts.proofs.Narrow.{closest-below, closest-tie, closest-above}
-use Rattle.lists.specs.Pick.{by-case}
+use Rattle.floats.specs.Convert.{apart}
+use Rattle.floats.proofs.Narrow.{closest-below, closest-tie, closest-above}
+use Rattle.sequences.specs.Pick.{by-case}
 
 pub eq-or-lt : (a b : ℕ) → (a ≡ b) ⊎ ((a < b) ⊎ (b < a))
 eq-or-lt a b = by-case (ltb a b) (λ e. inr (inl (ltb-true _ _ e))) (λ e. elim (eq-or-lt-of-le (ltb-false a b e)) [ inl g ↦ inl (sym g) | inr g ↦ inr (inr g) ])

@@ -12,9 +12,9 @@ use lib.Ieee.{Float, nan, inf, fin, binary32, up, down, round, sub, neg, le}
 use lib.Ieee.Exact.{HasValue}
 use lib.Ieee.Fits.{down-pos, round-fits, sub-fits}
 use lib.Ieee.Scale.{finite}
-use Rattle.lists.specs.Pick.{by-case}
+use Rattle.sequences.specs.Pick.{by-case}
 use Rattle.floats.specs.Names.{sub32}
-use Rattle.choices.proofs.Rounded.{round-number}
+use Rattle.floats.proofs.Rounded.{round-number}
 use Rattle.floats_laws.proofs.Fractions.{held}
 use Rattle.floats_laws.proofs.Keys.{key}
 use Rattle.floats_laws.proofs.Mono.{plus, minus, signedKey, signed-key-rises, round-signed-key, add-key, le→signed}

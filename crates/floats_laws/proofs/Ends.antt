@@ -9,8 +9,8 @@ use lib.IntN.{ℤ}
 use lib.Dec.{T}
 use lib.Ieee.{Float, nan, inf, fin, Format, neg, lt, le, fits, isNan}
 use lib.Ieee.Bits.{is-true, is-false}
-use Rattle.lists.specs.Pick.{by-case}
-use Rattle.choices.specs.Choose.{max, min}
+use Rattle.sequences.specs.Pick.{by-case}
+use Rattle.floats.specs.Choose.{max, min}
 use Rattle.floats_laws.proofs.Keys.{key, lt-key, le-key}
 use Rattle.floats_laws.proofs.Mag.{Mag, Upto, le-upto}
 use Rattle.floats_laws.proofs.Rising.{nought, neg-falls, past-lowest, past-highest}

@@ -10,15 +10,15 @@ use lib.Ieee.{Float, nan, inf, fin, Format, up, down, round, sum, rem, add, neg,
 use lib.Ieee.Fits.{up-pos, down-pos, round-fits, neg-fits}
 use lib.Ieee.Scale.{finite, round-same}
 use borrow.Author.Tests.{le-ltb}
-use Rattle.choices.specs.Choose.{abs}
+use Rattle.floats.specs.Choose.{abs}
 use Rattle.floats.specs.Remainder.{remEuclid}
-use Rattle.casts.proofs.Values.{own-round}
-use Rattle.choices.proofs.Rounded.{round-number}
+use Rattle.floats.proofs.Values.{own-round}
+use Rattle.floats.proofs.Rounded.{round-number}
 use Rattle.floats_laws.proofs.Keys.{over, side, mag, key}
 use Rattle.floats_laws.proofs.Mono.{roundedSize, rounded-size-rises, round-side}
 use Rattle.floats_laws.proofs.Rules.{key→le, not-lt→le, lt→le, add-number, neg-finite, finite-number, between-finite}
 use Rattle.floats_laws.proofs.Rising.{nought, add-rises, not-above, not-itself}
-use Rattle.lists.specs.Pick.{by-case}
+use Rattle.sequences.specs.Pick.{by-case}
 
 pub nought-fits : (f : Format) → T (fits f nought)
 unfolding fits

@@ -2,8 +2,8 @@
 use mathlib.Core.Path.{_≡_, refl}
 use lib.Dec.{T}
 use lib.Ieee.{Float, fin, inf, nan, Format, fits}
-use Rattle.casts.specs.Convert.{convert}
-use Rattle.casts.proofs.Values.{own-round}
+use Rattle.floats.specs.Convert.{convert}
+use Rattle.floats.proofs.Values.{own-round}
 
 pub own-convert : (f : Format) (x : Float) → T (fits f x) → convert f x ≡ x
 unfolding convert

@@ -13,8 +13,8 @@ use lib.Ieee.Fits.{down-pos}
 use lib.Ieee.Order.{round-mono}
 use lib.Ieee.Scale.{finite}
 use denote.Floats.{passes}
-use Rattle.lists.specs.Pick.{by-case}
-use Rattle.casts.proofs.Values.{neg-round}
+use Rattle.sequences.specs.Pick.{by-case}
+use Rattle.floats.proofs.Values.{neg-round}
 use Rattle.floats_laws.proofs.Mag.{Mag, Upto, le-of, within-upto}
 
 abbrev pub Under : Float → ℕ → ℕ → Type 0

@@ -10,12 +10,12 @@ use borrow.Author.Tests.{leb-true, leb-false, ltb-true}
 use lib.Ieee.{Float, nan, inf, fin, Format, up, down, round, size, sum, add, neg, sub, div, unlike, lt, le, fits, isNan}
 use lib.Ieee.Fits.{up-pos, down-pos, add-fits}
 use lib.Ieee.Scale.{finite, round-same}
-use Rattle.casts.proofs.Values.{own-round}
+use Rattle.floats.proofs.Values.{own-round}
 use Rattle.floats_laws.proofs.Keys.{over, key, lt-key}
 use Rattle.floats_laws.proofs.Mono.{signedKey, signed-key-rises, round-signed-key, add-key, plus, minus, plus-mul, minus-mul}
 use Rattle.floats_laws.proofs.Rules.{key→le, add-number, neg-finite, finite-number, le-right}
 use Rattle.floats_laws.proofs.Rising.{nought, not-above, not-itself, div-rises, sub-falls}
-use Rattle.choices.proofs.Rounded.{round-number}
+use Rattle.floats.proofs.Rounded.{round-number}
 use Rattle.floats_laws.proofs.Units.{one, one-fits}
 
 -- a value that fits, as a signed fraction

@@ -8,8 +8,8 @@ use lib.Dec.{ltb}
 use lib.Ieee.{Float, nan, inf, fin, up, down, lt, isNan}
 use lib.Ieee.Fits.{down-pos}
 use borrow.Author.Tests.{ltb-false}
-use Rattle.choices.specs.Choose.{max, clamp}
-use Rattle.lists.specs.Pick.{by-case}
+use Rattle.floats.specs.Choose.{max, clamp}
+use Rattle.sequences.specs.Pick.{by-case}
 use Rattle.floats_laws.proofs.Mag.{Mag, Upto, Least, least-pos, no-less}
 
 -- ---- numbers that a test left

@@ -13,7 +13,7 @@ use lib.Ieee.Exact.{HasValue}
 use lib.Ieee.Back.{round-whole}
 use lib.Ieee.Nearest.{div-mono}
 use Rattle.floats.specs.Whole.{floor, ceil, cut, lift, Cut, Lifted, Whole, Floored, Ceiled}
-use Rattle.casts.proofs.Values.{fine, unique}
+use Rattle.floats.proofs.Values.{fine, unique}
 use Rattle.floats.proofs.Floor.{kept, lift-le, ceil-is, floor-fits, floor-number}
 use Rattle.floats_laws.proofs.Keys.{key}
 use Rattle.floats_laws.proofs.Mono.{plus, minus, signedKey, signed-key-rises, round-signed-key, le→signed}

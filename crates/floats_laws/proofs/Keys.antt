@@ -10,8 +10,8 @@ use lib.Dec.{T, ltb, leb, eqb, ltb→lt, lt→ltb, leb→le, le→leb, eqb→eq}
 use lib.Pow.{pow-add, pow-pos}
 use lib.Ieee.{Float, nan, inf, fin, Format, emax, low, up, down, lt, le, eq, neg, fits, isNan, below, level}
 use lib.Ieee.Fits.{down-pos, eq→eqb, and-i, and-l, and-r}
-use Rattle.casts.specs.Convert.{unitsIn}
-use Rattle.casts.proofs.Values.{fine, steps, steps-are}
+use Rattle.floats.specs.Convert.{unitsIn}
+use Rattle.floats.proofs.Values.{fine, steps, steps-are}
 
 -- ---- the key
 abbrev pub over : Format → ℕ

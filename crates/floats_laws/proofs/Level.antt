@@ -10,7 +10,7 @@ use lib.Dec.{T, eqb, eqb→eq}
 use lib.Ieee.{Float, nan, inf, fin, Format, up, down, eq, fits}
 use lib.Ieee.Fits.{down-pos, and-l, and-r}
 use denote.Floats.{passes}
-use Rattle.casts.proofs.Values.{same-fin}
+use Rattle.floats.proofs.Values.{same-fin}
 
 abbrev pub Zero : Float → Type 0
 Zero x = (s : Bool) × (x ≡ fin s 0 (pos 0))

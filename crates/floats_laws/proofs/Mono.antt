@@ -12,8 +12,8 @@ use lib.Ieee.Fits.{up-pos, down-pos, round-fits, round-is, and-l, and-r}
 use lib.Ieee.Order as Order
 use lib.Ieee.Order.{round-mono}
 use lib.Ieee.Scale.{round-same}
-use Rattle.casts.proofs.Values.{own-round}
-use Rattle.choices.proofs.Rounded.{round-number}
+use Rattle.floats.proofs.Values.{own-round}
+use Rattle.floats.proofs.Rounded.{round-number}
 use Rattle.floats_laws.proofs.Keys.{over, mag, side, key, le-key}
 
 -- ---- the sign of a rounded value is the one given

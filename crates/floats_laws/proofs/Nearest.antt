@@ -15,12 +15,12 @@ use lib.Ieee.Exact.{HasValue, units-val}
 use lib.Ieee.Nearest.{closest, nearest-ge}
 use lib.Ieee.Scale.{finite}
 use borrow.Author.Tests.{ltb-true, ltb-false}
-use Rattle.casts.specs.Convert.{convert, unitsIn, apart, Nearest, Rounded}
-use Rattle.casts.proofs.Values.{fine, steps}
-use Rattle.casts.proofs.Pack.{pattern, units-over, twice}
+use Rattle.floats.specs.Convert.{convert, unitsIn, apart, Nearest, Rounded}
+use Rattle.floats.proofs.Values.{fine, steps}
+use Rattle.floats.proofs.Pack.{pattern, units-over, twice}
 use Rattle.floats_laws.proofs.Keys.{mag-is}
-use Rattle.choices.proofs.Sign.{negative-is}
-use Rattle.lists.specs.Pick.{by-case}
+use Rattle.floats.proofs.Sign.{negative-is}
+use Rattle.sequences.specs.Pick.{by-case}
 use Rattle.floats_laws.proofs.Close.{Close, close, close-least, close-tie, eq-or-lt}
 
 -- ---- the largest step of a format is 2 ^ widest of its smallest values

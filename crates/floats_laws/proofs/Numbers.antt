@@ -9,8 +9,8 @@ use lib.Ieee.{Float, nan, inf, fin, Format, up, down, mul, div, unlike, lt, isNa
 use lib.Ieee.Fits.{up-pos}
 use lib.Ieee.Scale.{finite}
 use lib.Ieee.Positive.{positive}
-use Rattle.casts.proofs.Sat.{no}
-use Rattle.choices.proofs.Rounded.{round-number}
+use Rattle.floats.proofs.Sat.{no}
+use Rattle.floats.proofs.Rounded.{round-number}
 use Rattle.floats_laws.proofs.Rising.{nought}
 
 -- ---- a test `<` that passed

@@ -13,8 +13,8 @@ use lib.Ieee.Bits.{nanBits-is}
 use lib.Ieee.Digits.{size-le}
 use lib.Ieee.Fits.{down-pos, kept-lt, two}
 use lib.Ieee.Nearest.{div-mono}
-use Rattle.casts.proofs.Narrow.{no-nan}
-use Rattle.casts.proofs.Pack.{twice, inf-pattern}
+use Rattle.floats.proofs.Narrow.{no-nan}
+use Rattle.floats.proofs.Pack.{twice, inf-pattern}
 use Rattle.floats_laws.proofs.Patterns.{bits-mono}
 use Rattle.floats_laws.proofs.Rising.{highest}
 use Rattle.floats_laws.proofs.ToBits.{mag-mono}

@@ -10,9 +10,9 @@ use lib.Ieee.{Float, nan, inf, fin, Format, binary32, binary64, prec, emax, low,
 use lib.Ieee.Digits.{size-le}
 use lib.Ieee.Fits.{kept-lt, up-pos, down-pos}
 use lib.Ieee.Positive.{positive, positive-of-value}
-use Rattle.casts.proofs.Values.{fine}
+use Rattle.floats.proofs.Values.{fine}
 use Rattle.floats_laws.proofs.Keys.{mag-under}
-use Rattle.casts.proofs.Pack.{twice}
+use Rattle.floats.proofs.Pack.{twice}
 use Rattle.floats_laws.proofs.Patterns.{bits-value, val}
 use Rattle.floats_laws.proofs.ToBits.{bits-are}
 

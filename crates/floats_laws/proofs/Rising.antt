@@ -9,7 +9,7 @@ use lib.Dec.{T, eqb, ltb→lt, eqb→eq, eqb·suc-zero}
 use lib.Ieee.{Float, nan, inf, fin, Format, up, down, round, add, sub, mul, div, neg, lt, le, eq, fits, isNan, unlike}
 use lib.Ieee.Fits.{add-fits, mul-fits, div-fits, neg-fits, up-pos, down-pos, and-l}
 use lib.Ieee.Scale.{finite}
-use Rattle.casts.proofs.Facts.{eq-self}
+use Rattle.floats.proofs.Facts.{eq-self}
 use Rattle.floats_laws.proofs.Keys.{over, side, key, key-neg}
 use Rattle.floats_laws.proofs.Mono.{add-up, add-swap, mul-up, div-up, round-side, rounded-size-zero}
 use Rattle.floats_laws.proofs.Rules.{le→key, key→le, le-left, le-right, add-number}

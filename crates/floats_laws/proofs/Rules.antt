@@ -7,7 +7,7 @@ use borrow.Author.Tests.{ltb-false}
 use lib.Dec.{T, leb→le, le→leb}
 use lib.Ieee.{Float, nan, inf, fin, Format, up, down, add, neg, lt, le, eq, fits, isNan}
 use lib.Ieee.Scale.{finite}
-use Rattle.choices.proofs.Rounded.{sum-number}
+use Rattle.floats.proofs.Rounded.{sum-number}
 use Rattle.floats_laws.proofs.Keys.{key, le-key, lt-key}
 
 -- what is compared with success is no NaN

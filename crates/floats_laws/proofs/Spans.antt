@@ -10,8 +10,8 @@ use lib.Ieee.Fits.{down-pos}
 use lib.Ieee.Bits.{is-true}
 use denote.Floats.{passes}
 use borrow.Author.Tests.{lt-ltb, ltb-true}
-use Rattle.lists.specs.Pick.{by-case}
-use Rattle.choices.specs.Choose.{max}
+use Rattle.sequences.specs.Pick.{by-case}
+use Rattle.floats.specs.Choose.{max}
 use Rattle.floats_laws.proofs.Keys.{key, lt-key}
 use Rattle.floats_laws.proofs.Rules.{le-left, le-right, lt→le, le→key}
 use Rattle.floats_laws.proofs.Rising.{nought}

@@ -10,7 +10,7 @@ use lib.Dec.{T}
 use lib.Ieee.{Float, nan, inf, fin, up, down, lt, le, eq}
 use lib.Ieee.Fits.{down-pos}
 use Rattle.floats_laws.proofs.Mono.{plus, minus, le→signed}
-use Rattle.casts.proofs.Sat.{no}
+use Rattle.floats.proofs.Sat.{no}
 
 module _ (m : ℕ) (e : ℤ) (n : ℕ) (d : ℤ) where
   abbrev left : ℕ

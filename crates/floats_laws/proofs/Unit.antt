@@ -13,7 +13,7 @@ use lib.Ieee.Fits.{down-pos, add-fits, mul-fits, sub-fits, neg-fits, round-fits}
 use lib.Ieee.Scale.{finite, round-same}
 use lib.Ieee.Order.{round-mono}
 use borrow.Author.Tests.{le-ltb}
-use Rattle.lists.specs.Pick.{by-case}
+use Rattle.sequences.specs.Pick.{by-case}
 use Rattle.floats_laws.proofs.Between.{sum-from-zero}
 use Rattle.floats_laws.proofs.Bounds.{mul-mag, sub-mag}
 use Rattle.floats_laws.proofs.Gap.{one-number}
@@ -22,7 +22,7 @@ use Rattle.floats_laws.proofs.Numbers.{mul-number}
 use Rattle.floats_laws.proofs.Products.{product-from-zero, product-to-zero, mul-rises-right}
 use Rattle.floats_laws.proofs.Rising.{le-refl as float-refl, nought, add-rises, add-rises-right, sub-falls, mul-rises, neg-falls}
 use Rattle.floats_laws.proofs.Rules.{between-finite, finite-number, neg-finite, add-number, key→le, le-trans as float-trans}
-use Rattle.casts.proofs.Values.{own-round, neg-round}
+use Rattle.floats.proofs.Values.{own-round, neg-round}
 use Rattle.floats_laws.proofs.Grid.{AtMost, to-one, multiple-24, round-at-most}
 
 abbrev pub i : Float

@@ -7,7 +7,7 @@ use lib.IntN.{ℤ, pos}
 use lib.Dec.{T}
 use lib.Ieee.{Float, nan, inf, fin, Format, binary32, binary64, up, down, round, mul, lt, le, eq, fits}
 use Rattle.floats_laws.proofs.Rising.{nought}
-use Rattle.casts.proofs.Values.{own-round}
+use Rattle.floats.proofs.Values.{own-round}
 
 abbrev pub one : Float
 one = fin false 1 (pos 0)

@@ -12,9 +12,9 @@ use lib.Ieee.Back.{round-whole, unsigned-back}
 use lib.Ieee.Exact.{HasValue}
 use lib.Ieee.Fits.{down-pos, round-fits}
 use lib.Ieee.Scale.{round-same}
-use Rattle.lists.specs.Pick.{by-case}
+use Rattle.sequences.specs.Pick.{by-case}
 use Rattle.floats.specs.Names.{add32, sub32}
-use Rattle.casts.proofs.Values.{unique}
+use Rattle.floats.proofs.Values.{unique}
 
 -- x is the whole number k - 1000
 pub record At (x : Float) (k : ℕ) : Type 0 where

@@ -2,10 +2,10 @@
 use Prim.Native.Nat.{ℕ}
 use mathlib.Core.List.{List, map}
 use lib.Ieee.{Float}
-use Rattle.lists.specs.Pick.{pick}
-use Rattle.lists.specs.Walk.{count}
-use Rattle.words.specs.Word.{difference}
-use Rattle.voices.specs.Voices.{maxHzOf}
+use Rattle.sequences.specs.Pick.{pick}
+use Rattle.sequences.specs.Walk.{count}
+use Rattle.floats.specs.Word.{difference}
+use Rattle.births.specs.Voices.{maxHzOf}
 use Rattle.state.specs.declared.Engine.{Engine}
 use Rattle.state.specs.declared.Tally.{Tally}
 use Rattle.state.specs.State.{withParticles, withTally}
@@ -15,9 +15,9 @@ use Rattle.refusals.specs.declared.Refusal.the-variants.{Seconds}
 use Rattle.windows.specs.declared.Window.{Window}
 use Rattle.windows.specs.Opening.{emptyFrame}
 use Rattle.frame.specs.declared.Framed.{Framed}
-use Rattle.places.specs.Freed.{isFreed, sweepOne}
-use Rattle.places.specs.Shown.{shownOf}
-use Rattle.partials.specs.Windows.{windowsOf}
+use Rattle.frame.specs.Freed.{isFreed, sweepOne}
+use Rattle.frame.specs.Shown.{shownOf}
+use Rattle.frame.specs.Windows.{windowsOf}
 use Rattle.frame.specs.Frame.{activityOf, accepted}
 
 -- if age >= p.lifetime || retirement >= 1.0 { *p = Particle::default(); }, at each place

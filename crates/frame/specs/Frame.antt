@@ -2,7 +2,7 @@
 use mathlib.Core.Bool.{Bool, cond, _&&_}
 use lib.Ieee.{Float, lt, le, neg}
 use lib.Ieee.Scale.{finite}
-use Rattle.lists.specs.Pick.{pick}
+use Rattle.sequences.specs.Pick.{pick}
 use Rattle.floats.specs.Names.{f32, add32, sub32, mul32, div32, nil, one}
 use Rattle.powers.specs.Power.{exp}
 

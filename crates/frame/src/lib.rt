@@ -9,6 +9,9 @@ use refusals::Refusal;
 use state::Engine;
 use windows::Frame;
 
+mod partials;
+mod places;
+
 pub const TRANSITION_SECONDS: f32 = 0.05;
 
 // The two-byte answer stands last: before the others it would put them at odd addresses, where copies
@@ -82,7 +85,7 @@ fn taken(engine: Engine, particles: [Particle; 64], bin_hz: f32, elapsed_seconds
             shown[i] = places::show(p, sample, rate);
         }
     }
-    let windows = partials::windows(shown, logs, bin_hz, voices::max_hz(rate));
+    let windows = partials::windows(shown, logs, bin_hz, births::max_hz(rate));
     let activity = activity(engine.activity, config.enabled, elapsed_seconds);
     let frame = Frame { windows, activity };
     let engine = renewed(engine, held, freed, activity);

@@ -6,7 +6,7 @@ use lib.Ieee.{Float, fin, binary32, ofBits, div, neg, lt, le, eq, fits, isNan}
 use lib.Ieee as Ieee
 use lib.Ieee.Fits.{div-fits, and-l, and-r}
 use lib.Ieee.Scale.{finite}
-use Rattle.lists.specs.Pick.{pick}
+use Rattle.sequences.specs.Pick.{pick}
 use Rattle.floats.specs.Names.{f32, div32}
 use Rattle.floats_laws.proofs.Gap.{quotient-number}
 use Rattle.floats_laws.proofs.Rising.{nought, neg-falls, div-rises}

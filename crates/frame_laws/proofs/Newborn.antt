@@ -14,10 +14,10 @@ use lib.Ieee.Bits.{is-false, is-true, ofBits-fits}
 use lib.Ieee.Fits.{add-fits, mul-fits, div-fits, round-fits, and-l, and-r}
 use lib.Ieee.Order.{round-mono}
 use lib.Ieee.Scale.{finite}
-use Rattle.lists.specs.Pick.{either}
-use Rattle.lists.specs.Table.{table-at}
+use Rattle.sequences.specs.Pick.{either}
+use Rattle.sequences.specs.Table.{table-at}
 use Rattle.floats.specs.Names.{f32, one}
-use Rattle.choices.specs.Choose.{clamp}
+use Rattle.floats.specs.Choose.{clamp}
 use Rattle.floats_laws.proofs.Bounds.{add-mag, mul-mag}
 use Rattle.floats_laws.proofs.Choosing.{clamp-least, clamp-fits}
 use Rattle.floats_laws.proofs.Held.{clamp-mag}
@@ -32,8 +32,8 @@ use Rattle.draws.specs.Draws.{randomOf}
 use Rattle.draws.proofs.Unit.{random-in}
 use Rattle.elementary.specs.Log2.{log2Of}
 use Rattle.elementary_laws.proofs.LogRises.{log2-within}
-use Rattle.octaves.specs.Octave.{registerOf}
-use Rattle.registers.specs.Register as register
+use Rattle.pitch.specs.Octave.{registerOf}
+use Rattle.pitch.specs.Register as register
 use Rattle.pitch_laws.proofs.Octaves.{WholeUpto, octave-whole}
 use Rattle.pitch_laws.proofs.Ranges.{strength-in}
 use Rattle.pitch_laws.proofs.Tops.{Top, rate-top}
@@ -42,13 +42,13 @@ use Rattle.settings.specs.declared.Direction.{Direction}
 use Rattle.settings.specs.declared.Direction.the-variants.{Forward, Reverse, Alternate}
 use Rattle.settings.specs.declared.Shape.{Shape}
 use Rattle.settings.specs.declared.Shape.the-variants.{Sprinkle, Cloud}
-use Rattle.envelopes.specs.Envelope.{sprinkleOf, cloudOf, cloudAttackOf, byShape, envelopeOf}
+use Rattle.settings.specs.Envelope.{sprinkleOf, cloudOf, cloudAttackOf, byShape, envelopeOf}
 use Rattle.settings.specs.Settings.{maxHop, lawfulRate}
-use Rattle.mending.specs.Mending.{finiteOr, heldTo, mendedOf}
+use Rattle.settings.specs.Mending.{finiteOr, heldTo, mendedOf}
 use Rattle.settings_laws.proofs.Again.{finite-or, or-fits}
 use Rattle.settings_laws.proofs.Lifetimes.{Formed, envelope-sound}
-use Rattle.voices.specs.declared.Voice.{Voice}
-use Rattle.voices.specs.Voices.{rate32, maxHzOf}
+use Rattle.births.specs.declared.voices.Voice.{Voice}
+use Rattle.births.specs.Voices.{rate32, maxHzOf}
 use Rattle.births.specs.Births.{registerBy, widthOf, openingOf, strengthOf, newbornOf}
 use Rattle.state.specs.Make.{partialLogs}
 use Rattle.frame_laws.proofs.Strengths.{Rated}

@@ -6,15 +6,15 @@ use mathlib.Core.Bool.{false}
 use mathlib.Core.List.{List, map}
 use lib.Ieee.{Float}
 use lib.ListN.{length, getD}
-use Rattle.lists.specs.Default.{getD-any}
-use Rattle.lists.specs.Pick.{pick}
-use Rattle.lists.specs.Table.{table-at}
+use Rattle.sequences.specs.Default.{getD-any}
+use Rattle.sequences.specs.Pick.{pick}
+use Rattle.sequences.specs.Table.{table-at}
 use Rattle.pool.specs.declared.Particle.{Particle}
 use Rattle.windows.specs.Opening.{none}
-use Rattle.places.specs.Shown.{nothing, shownOf}
-use Rattle.partials.specs.Windows.{windowOf, windowAt, windowsOf, pastShown}
-use Rattle.lists.specs.Copied.{length-map, getD-map}
-use Rattle.places.specs.declared.Shown.{Shown}
+use Rattle.frame.specs.Shown.{nothing, shownOf}
+use Rattle.frame.specs.Windows.{windowOf, windowAt, windowsOf, pastShown}
+use Rattle.sequences.specs.Copied.{length-map, getD-map}
+use Rattle.frame.specs.declared.places.Shown.{Shown}
 use Rattle.windows.specs.declared.Window.{Window}
 
 module _ (logs : List Float) (binHz maxHz : Float) (sample : ℕ) (rate : Float) (particles : List Particle) (long : length particles ≡ 64) where

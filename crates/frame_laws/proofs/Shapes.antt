@@ -14,8 +14,8 @@ use lib.Ieee.Fits.{up-pos, add-fits, div-fits}
 use lib.Ieee.Bits.{is-false, ofBits-toBits}
 use lib.Ieee.Scale.{finite}
 use lib.ListN.{getD}
-use Rattle.lists.specs.Pick.{by-case}
-use Rattle.choices.specs.Choose.{max}
+use Rattle.sequences.specs.Pick.{by-case}
+use Rattle.floats.specs.Choose.{max}
 use Rattle.floats_laws.proofs.Bounds.{add-mag}
 use Rattle.floats_laws.proofs.Choosing.{max-fits, max-right}
 use Rattle.floats_laws.proofs.Ends.{mag-between}
@@ -26,15 +26,15 @@ use Rattle.floats_laws.proofs.PositiveBits.{positive-under}
 use Rattle.floats_laws.proofs.Rising.{le-refl as float-refl, nought, not-above, not-itself, add-rises-right, div-rises}
 use Rattle.floats_laws.proofs.Rules.{finite-number, lt→le, add-number, between-finite, le-trans as float-trans}
 use Rattle.floats_laws.proofs.Spans.{lt-le}
-use Rattle.casts.proofs.Values.{own-round}
+use Rattle.floats.proofs.Values.{own-round}
 use Rattle.elementary.specs.Log2.{log2Of}
 use Rattle.elementary_laws.proofs.LogExact.{log2-fits}
 use Rattle.elementary_laws.proofs.LogRises.{least, most, log2-within}
 use Rattle.pool.specs.declared.Particle.{Particle}
 use Rattle.floats.specs.Names.{nil, one}
-use Rattle.places.specs.declared.Shown.{Shown}
-use Rattle.places.specs.Shown.{rootLogOf}
-use Rattle.partials.specs.Windows.{centerOf, radiusOf}
+use Rattle.frame.specs.declared.places.Shown.{Shown}
+use Rattle.frame.specs.Shown.{rootLogOf}
+use Rattle.frame.specs.Windows.{centerOf, radiusOf}
 use Rattle.floats_laws.proofs.Unit.{i, i-fits, nought-fits, one-and-nothing, to-nought, from-round}
 
 -- ---- the centre

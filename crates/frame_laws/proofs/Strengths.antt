@@ -12,23 +12,23 @@ use lib.Ieee.Fits.{down-pos, mul-fits, sub-fits, div-fits, round-fits}
 use lib.Ieee.Order.{round-mono}
 use lib.Ieee.Scale.{finite}
 use borrow.Author.Tests.{le-ltb}
-use Rattle.lists.specs.Pick.{either}
+use Rattle.sequences.specs.Pick.{either}
 use Rattle.floats.specs.Names.{f64}
-use Rattle.casts.specs.Convert.{convert}
+use Rattle.floats.specs.Convert.{convert}
 use Rattle.floats_laws.proofs.Casting.{convert-number}
-use Rattle.choices.proofs.Rounded.{round-number}
+use Rattle.floats.proofs.Rounded.{round-number}
 use Rattle.floats_laws.proofs.Gap.{quotient-number, one-number}
 use Rattle.floats_laws.proofs.Mag.{mag-finite, within}
 use Rattle.floats_laws.proofs.Rising.{nought, not-above}
 use Rattle.floats_laws.proofs.Spans.{lt-le}
-use Rattle.casts.proofs.Values.{fine}
+use Rattle.floats.proofs.Values.{fine}
 use Rattle.pool.specs.declared.Particle.{Particle}
 use Rattle.pool.specs.declared.Retired.{Retired}
 use Rattle.pool.specs.declared.Retired.the-variants.{Not, At}
 use Rattle.windows.specs.Opening.{taperOf, cubic}
 use Rattle.windows_laws.proofs.Tapered.{taper-finite, taper-most}
-use Rattle.places.specs.Freed.{elapsedOf, secondsOf, retirementOf}
-use Rattle.places.specs.Shown.{powerOf, envelopeOf, passedOf, fadeOf, amplitudeOf}
+use Rattle.frame.specs.Freed.{elapsedOf, secondsOf, retirementOf}
+use Rattle.frame.specs.Shown.{powerOf, envelopeOf, passedOf, fadeOf, amplitudeOf}
 use Rattle.floats_laws.proofs.Unit.{i, nought-fits, Unit, product-unit}
 
 -- what the amplitude needs of a particle; a birth gives it

@@ -9,7 +9,7 @@ use lib.Dec.{T, eqb, ltb}
 use lib.Ieee.{Float, binary32, lt, le, fits}
 use lib.Ieee.Scale.{finite}
 use borrow.Author.Tests.{eqb-false, ltb-false}
-use Rattle.lists.specs.Pick.{pick, by-case, picked}
+use Rattle.sequences.specs.Pick.{pick, by-case, picked}
 use Rattle.floats_laws.proofs.Mag.{Mag, mag-finite}
 use Rattle.floats_laws.proofs.Rising.{nought}
 use Rattle.floats_laws.proofs.Rules.{finite-number}
@@ -18,9 +18,9 @@ use Rattle.elementary_laws.proofs.PowerValues.{power-fits}
 use Rattle.pool.specs.declared.Particle.{Particle}
 use Rattle.windows.specs.declared.Window.{Window}
 use Rattle.windows.specs.Opening.{none}
-use Rattle.places.specs.declared.Shown.{Shown}
-use Rattle.places.specs.Shown.{rootLogOf, amplitudeOf, nothing, shownOf}
-use Rattle.partials.specs.Windows.{centerOf, placedOf, windowOf}
+use Rattle.frame.specs.declared.places.Shown.{Shown}
+use Rattle.frame.specs.Shown.{rootLogOf, amplitudeOf, nothing, shownOf}
+use Rattle.frame.specs.Windows.{centerOf, placedOf, windowOf}
 use Rattle.floats_laws.proofs.Unit.{Unit}
 use Rattle.frame_laws.proofs.Strengths.{Timed, Rated, amplitude-unit}
 use Rattle.frame_laws.proofs.Shapes.{Pitched, Logs, root-mag, centre-mag, radius-above, radius-finite}

@@ -5,10 +5,10 @@ use mathlib.Core.List.{List}
 use lib.ListN.{length}
 use Rattle.text.specs.Put.{bufferOf}
 use Rattle.refusals.specs.Numbers.{answerOf}
-use Rattle.fields.specs.declared.Field.{Field}
-use Rattle.writer.specs.declared.Written.{Written}
-use Rattle.writer.specs.Encoded.{encoded}
-use Rattle.writer.specs.Written.{writtenOf}
+use Rattle.script.specs.declared.fields.Field.{Field}
+use Rattle.script_writer.specs.declared.Written.{Written}
+use Rattle.script_writer.specs.Encoded.{encoded}
+use Rattle.script_writer.specs.Written.{writtenOf}
 use Rattle.host.specs.Write.{writtenAt}
 
 pub told-by : (o : List ℕ) (at : ℕ) (f : Field) {w : Written} {number count : ℕ} {p : List ℕ} → (w ≡ writtenOf (length o) at (encoded f)) × (p ≡ bufferOf o at (encoded f))

@@ -7,9 +7,9 @@ use lib.Dec.{eqb}
 use lib.Ieee.{Float}
 use Rattle.text.specs.Put.{bufferOf}
 use Rattle.refusals.specs.Numbers.{answerOf}
-use Rattle.fields.specs.declared.Field.{Field}
-use Rattle.writer.specs.Encoded.{encoded}
-use Rattle.writer.specs.Written.{writtenOf}
+use Rattle.script.specs.declared.fields.Field.{Field}
+use Rattle.script_writer.specs.Encoded.{encoded}
+use Rattle.script_writer.specs.Written.{writtenOf}
 use Rattle.settings.specs.declared.Config.{Config}
 use Rattle.settings.specs.declared.Shape.{Shape}
 use Rattle.settings.specs.declared.Shape.the-variants.{Sprinkle, Cloud}

@@ -1,6 +1,6 @@
 // What a host may call: the elementary functions on numbers, a script on lent bytes, its mask file, and
 // the writer of events.
-ghost use Rattle.power64.specs.Exp64 as Exp64;
+ghost use Rattle.powers.specs.Exp64 as Exp64;
 ghost use Rattle.elementary.specs.Log2.{log2Of};
 ghost use Rattle.powers.specs.Power as Power;
 ghost use Rattle.elementary.specs.Sqrt.{sqrtOf};

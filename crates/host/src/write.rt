@@ -1,13 +1,13 @@
 // Writes events for a host, one call for each: 0 and the count behind `at` moved on, or 13 and all as it
 // was.
 ghost use mathlib.Core.Path.{_≡_};
-ghost use Rattle.fields.specs.declared.Field.the-variants as F;
+ghost use Rattle.script.specs.declared.fields.Field.the-variants as F;
 ghost use Rattle.refusals.specs.Numbers.{answerOf};
 ghost use Rattle.host.specs.Write.{shapeFrom, directionFrom, configFrom, writtenAt};
+use script_writer::Written;
 use settings::Config;
 use settings::Direction;
 use settings::Shape;
-use writer::Written;
 
 // The count after a write goes behind `at`; the answer, by its number, comes back.
 fn told(written: Written, at: &mut u64) -> u32
@@ -46,7 +46,7 @@ fn direction_from(n: u8) -> Direction
 pub extern "C" fn rk_write_rate(rate: f32, out: &mut [u8], at: &mut u64) -> u32
     ensures { λ r. ⌜ (r, now (at .exit), now (out .exit)) ≡ writtenAt (now (out .entry)) (now (at .entry)) (F.Rate rate) ⌝ }
 {
-    let written = writer::write_rate(rate, out, *at as usize);
+    let written = script_writer::write_rate(rate, out, *at as usize);
     told(written, at)
 }
 
@@ -85,7 +85,7 @@ pub extern "C" fn rk_write_configure(
         attack_ms,
         release_ms,
     };
-    let written = writer::write_configure(config, out, *at as usize);
+    let written = script_writer::write_configure(config, out, *at as usize);
     told(written, at)
 }
 
@@ -100,7 +100,14 @@ pub extern "C" fn rk_write_source(
 ) -> u32
     ensures { λ r. ⌜ (r, now (at .exit), now (out .exit)) ≡ writtenAt (now (out .entry)) (now (at .entry)) (F.Source slot «frequency_hz» strength eligible) ⌝ }
 {
-    let written = writer::write_source(slot, frequency_hz, strength, eligible, out, *at as usize);
+    let written = script_writer::write_source(
+        slot,
+        frequency_hz,
+        strength,
+        eligible,
+        out,
+        *at as usize,
+    );
     told(written, at)
 }
 
@@ -108,7 +115,7 @@ pub extern "C" fn rk_write_source(
 pub extern "C" fn rk_write_retire(slot: u16, out: &mut [u8], at: &mut u64) -> u32
     ensures { λ r. ⌜ (r, now (at .exit), now (out .exit)) ≡ writtenAt (now (out .entry)) (now (at .entry)) (F.Retire slot) ⌝ }
 {
-    let written = writer::write_retire(slot, out, *at as usize);
+    let written = script_writer::write_retire(slot, out, *at as usize);
     told(written, at)
 }
 
@@ -116,7 +123,7 @@ pub extern "C" fn rk_write_retire(slot: u16, out: &mut [u8], at: &mut u64) -> u3
 pub extern "C" fn rk_write_release(slot: u16, out: &mut [u8], at: &mut u64) -> u32
     ensures { λ r. ⌜ (r, now (at .exit), now (out .exit)) ≡ writtenAt (now (out .entry)) (now (at .entry)) (F.Release slot) ⌝ }
 {
-    let written = writer::write_release(slot, out, *at as usize);
+    let written = script_writer::write_release(slot, out, *at as usize);
     told(written, at)
 }
 
@@ -124,7 +131,7 @@ pub extern "C" fn rk_write_release(slot: u16, out: &mut [u8], at: &mut u64) -> u
 pub extern "C" fn rk_write_trigger(slot: u16, out: &mut [u8], at: &mut u64) -> u32
     ensures { λ r. ⌜ (r, now (at .exit), now (out .exit)) ≡ writtenAt (now (out .entry)) (now (at .entry)) (F.Trigger slot) ⌝ }
 {
-    let written = writer::write_trigger(slot, out, *at as usize);
+    let written = script_writer::write_trigger(slot, out, *at as usize);
     told(written, at)
 }
 
@@ -132,7 +139,7 @@ pub extern "C" fn rk_write_trigger(slot: u16, out: &mut [u8], at: &mut u64) -> u
 pub extern "C" fn rk_write_seek(cycles: f64, out: &mut [u8], at: &mut u64) -> u32
     ensures { λ r. ⌜ (r, now (at .exit), now (out .exit)) ≡ writtenAt (now (out .entry)) (now (at .entry)) (F.Seek cycles) ⌝ }
 {
-    let written = writer::write_seek(cycles, out, *at as usize);
+    let written = script_writer::write_seek(cycles, out, *at as usize);
     told(written, at)
 }
 
@@ -140,7 +147,7 @@ pub extern "C" fn rk_write_seek(cycles: f64, out: &mut [u8], at: &mut u64) -> u3
 pub extern "C" fn rk_write_advance(samples: u32, out: &mut [u8], at: &mut u64) -> u32
     ensures { λ r. ⌜ (r, now (at .exit), now (out .exit)) ≡ writtenAt (now (out .entry)) (now (at .entry)) (F.Advance samples) ⌝ }
 {
-    let written = writer::write_advance(samples, out, *at as usize);
+    let written = script_writer::write_advance(samples, out, *at as usize);
     told(written, at)
 }
 
@@ -148,7 +155,7 @@ pub extern "C" fn rk_write_advance(samples: u32, out: &mut [u8], at: &mut u64) -
 pub extern "C" fn rk_write_frame(bin_hz: f32, elapsed: f32, out: &mut [u8], at: &mut u64) -> u32
     ensures { λ r. ⌜ (r, now (at .exit), now (out .exit)) ≡ writtenAt (now (out .entry)) (now (at .entry)) (F.Frame «bin_hz» elapsed) ⌝ }
 {
-    let written = writer::write_frame(bin_hz, elapsed, out, *at as usize);
+    let written = script_writer::write_frame(bin_hz, elapsed, out, *at as usize);
     told(written, at)
 }
 
@@ -156,7 +163,7 @@ pub extern "C" fn rk_write_frame(bin_hz: f32, elapsed: f32, out: &mut [u8], at: 
 pub extern "C" fn rk_write_note_input(present: bool, out: &mut [u8], at: &mut u64) -> u32
     ensures { λ r. ⌜ (r, now (at .exit), now (out .exit)) ≡ writtenAt (now (out .entry)) (now (at .entry)) (F.NoteInput present) ⌝ }
 {
-    let written = writer::write_note_input(present, out, *at as usize);
+    let written = script_writer::write_note_input(present, out, *at as usize);
     told(written, at)
 }
 
@@ -164,7 +171,7 @@ pub extern "C" fn rk_write_note_input(present: bool, out: &mut [u8], at: &mut u6
 pub extern "C" fn rk_write_reset(out: &mut [u8], at: &mut u64) -> u32
     ensures { λ r. ⌜ (r, now (at .exit), now (out .exit)) ≡ writtenAt (now (out .entry)) (now (at .entry)) F.Reset ⌝ }
 {
-    let written = writer::write_reset(out, *at as usize);
+    let written = script_writer::write_reset(out, *at as usize);
     told(written, at)
 }
 
@@ -172,7 +179,7 @@ pub extern "C" fn rk_write_reset(out: &mut [u8], at: &mut u64) -> u32
 pub extern "C" fn rk_write_reserve(out: &mut [u8], at: &mut u64) -> u32
     ensures { λ r. ⌜ (r, now (at .exit), now (out .exit)) ≡ writtenAt (now (out .entry)) (now (at .entry)) F.Reserve ⌝ }
 {
-    let written = writer::write_reserve(out, *at as usize);
+    let written = script_writer::write_reserve(out, *at as usize);
     told(written, at)
 }
 
@@ -185,6 +192,6 @@ pub extern "C" fn rk_write_reserved_trigger(
 ) -> u32
     ensures { λ r. ⌜ (r, now (at .exit), now (out .exit)) ≡ writtenAt (now (out .entry)) (now (at .entry)) (F.ReservedTrigger slot index) ⌝ }
 {
-    let written = writer::write_reserved_trigger(slot, index, out, *at as usize);
+    let written = script_writer::write_reserved_trigger(slot, index, out, *at as usize);
     told(written, at)
 }

@@ -7,12 +7,12 @@ use lib.ListN.{length, drop}
 use borrow.Author.Tests.{eq-eqb, ne-eqb}
 use Rattle.text.specs.Put.{Put}
 use Rattle.text.proofs.Laws.{seq}
-use Rattle.steps.specs.Steps.{fresh}
-use Rattle.lines.specs.Lines.{textOf, textAll}
-use Rattle.turns.specs.declared.Turn.{Turn}
-use Rattle.turns.specs.Turns.{turnOf}
-use Rattle.turns.specs.Late.{countedOf, turnsLate}
-use Rattle.turns.proofs.Laws.{turn-taken, turns-zero}
+use Rattle.script_steps.specs.Steps.{fresh}
+use Rattle.listing.specs.Lines.{textOf, textAll}
+use Rattle.listing.specs.declared.turns.Turn.{Turn}
+use Rattle.listing.specs.Turns.{turnOf}
+use Rattle.listing.specs.TurnsLate.{countedOf, turnsLate}
+use Rattle.listing.proofs.TurnLaws.{turn-taken, turns-zero}
 use Rattle.listing.specs.Printed.{linesOf, textFrom, printed}
 use Rattle.listing.specs.Late.{printedLate}
 

@@ -8,10 +8,10 @@ use lib.Seq.{drop-drop}
 use borrow.Author.Tests.{eq-eqb, ne-eqb}
 use Rattle.text.specs.Put.{Put}
 use Rattle.text.proofs.Laws.{seq}
-use Rattle.steps.specs.declared.Run.{Run}
-use Rattle.lines.specs.Lines.{textOf}
-use Rattle.turns.specs.declared.Turn.{Turn}
-use Rattle.turns.specs.Turns.{turnOf, turnsFrom}
+use Rattle.script_steps.specs.declared.Run.{Run}
+use Rattle.listing.specs.Lines.{textOf}
+use Rattle.listing.specs.declared.turns.Turn.{Turn}
+use Rattle.listing.specs.Turns.{turnOf, turnsFrom}
 use Rattle.listing.specs.Printed.{textFrom}
 
 last : (f : ℕ) (run : Run) (n : ℕ) (s : List ℕ) → turnOf run n s .taken ≡ 0 → textOf (turnOf run n s .line) ≡ textFrom (suc f) run n s

@@ -8,20 +8,20 @@ use lib.Dec.{eqb}
 use lib.ListN.{length, drop, length-drop}
 use lib.Seq.{drop-drop}
 use borrow.Author.Tests.{ne-eqb}
-use Rattle.casts.proofs.Sat.{no}
-use Rattle.lists.specs.Pick.{picked, passed, by-case}
+use Rattle.floats.proofs.Sat.{no}
+use Rattle.sequences.specs.Pick.{picked, passed, by-case}
 use Rattle.state.specs.State.{grown}
 use Rattle.text.specs.Put.{Put}
-use Rattle.steps.specs.declared.Run.{Run}
-use Rattle.lines.specs.declared.Line.{Line}
-use Rattle.lines.specs.declared.Line.the-variants as L
-use Rattle.lines.specs.Lines.{textOf}
-use Rattle.turns.specs.declared.Reached.{Reached}
-use Rattle.turns.specs.declared.Until.the-variants as U
-use Rattle.turns.specs.Turns.{turnOf}
-use Rattle.turns.specs.Reaching.{isSilent, goesOn, reachedAt, reachedFrom, reachedOf}
-use Rattle.turns.proofs.Going.{on-takes}
-use Rattle.turns.proofs.Laws.{taken-left}
+use Rattle.script_steps.specs.declared.Run.{Run}
+use Rattle.listing.specs.declared.lines.Line.{Line}
+use Rattle.listing.specs.declared.lines.Line.the-variants as L
+use Rattle.listing.specs.Lines.{textOf}
+use Rattle.listing.specs.declared.turns.Reached.{Reached}
+use Rattle.listing.specs.declared.turns.Until.the-variants as U
+use Rattle.listing.specs.Turns.{turnOf}
+use Rattle.listing.specs.Reaching.{isSilent, goesOn, reachedAt, reachedFrom, reachedOf}
+use Rattle.listing.proofs.Going.{on-takes}
+use Rattle.listing.proofs.TurnLaws.{taken-left}
 use Rattle.listing.specs.Printed.{textFrom}
 use Rattle.listing.proofs.Laws.{more, Goes}
 

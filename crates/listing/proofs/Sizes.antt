@@ -5,16 +5,16 @@ use native.Mathlib.Omega.{arith}
 use lib.ListN.{length, drop, length-append, length-drop}
 use lib.Dec.{eqb, leb}
 use borrow.Author.Tests.{eqb-false}
-use Rattle.lists.specs.Pick.{by-case}
+use Rattle.sequences.specs.Pick.{by-case}
 use Rattle.refusals.specs.declared.Refusal.the-variants.{Script}
-use Rattle.steps.specs.declared.Run.{Run}
-use Rattle.steps.specs.Steps.{fresh}
-use Rattle.lines.specs.declared.Line.the-variants as L
-use Rattle.lines.specs.Lines.{textAll}
-use Rattle.lines.proofs.Sizes.{line-size}
-use Rattle.turns.specs.Turns.{turnOf, turnsFrom}
-use Rattle.turns.specs.Late.{countedOf, turnsLate}
-use Rattle.turns.proofs.Laws.{turn-taken, turn-three}
+use Rattle.script_steps.specs.declared.Run.{Run}
+use Rattle.script_steps.specs.Steps.{fresh}
+use Rattle.listing.specs.declared.lines.Line.the-variants as L
+use Rattle.listing.specs.Lines.{textAll}
+use Rattle.listing.proofs.LineSizes.{line-size}
+use Rattle.listing.specs.Turns.{turnOf, turnsFrom}
+use Rattle.listing.specs.TurnsLate.{countedOf, turnsLate}
+use Rattle.listing.proofs.TurnLaws.{turn-taken, turn-three}
 use Rattle.listing.specs.Printed.{linesOf, printed}
 use Rattle.listing.specs.Listed.{roomFor}
 use Rattle.listing.specs.Late.{printedLate}

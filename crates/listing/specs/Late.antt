@@ -6,10 +6,10 @@ use lib.ListN.{length}
 use lib.Dec.{leb, ltb}
 use Rattle.text.specs.Put.{splice}
 use Rattle.refusals.specs.declared.Refusal.the-variants.{Script, Room}
-use Rattle.lines.specs.Lines.{textAll}
-use Rattle.lines.specs.declared.Line.{Line}
-use Rattle.lines.specs.declared.Line.the-variants as L
-use Rattle.turns.specs.Late.{turnsLate}
+use Rattle.listing.specs.Lines.{textAll}
+use Rattle.listing.specs.declared.lines.Line.{Line}
+use Rattle.listing.specs.declared.lines.Line.the-variants as L
+use Rattle.listing.specs.TurnsLate.{turnsLate}
 use Rattle.listing.specs.declared.Listed.{Listed}
 use Rattle.listing.specs.declared.Listed.the-variants.{Count, Refused}
 use Rattle.listing.specs.Printed.{linesOf}

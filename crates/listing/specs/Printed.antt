@@ -5,12 +5,12 @@ use mathlib.Core.List.{List, [], _∷_, map}
 use lib.ListN.{length}
 use lib.Dec.{leb}
 use Rattle.refusals.specs.declared.Refusal.the-variants.{Script}
-use Rattle.steps.specs.declared.Run.{Run}
-use Rattle.lines.specs.declared.Line.{Line}
-use Rattle.lines.specs.declared.Line.the-variants as L
-use Rattle.lines.specs.Lines.{textAll}
-use Rattle.turns.specs.declared.Turn.{Turn}
-use Rattle.turns.specs.Turns.{turnsFrom, turnsOf}
+use Rattle.script_steps.specs.declared.Run.{Run}
+use Rattle.listing.specs.declared.lines.Line.{Line}
+use Rattle.listing.specs.declared.lines.Line.the-variants as L
+use Rattle.listing.specs.Lines.{textAll}
+use Rattle.listing.specs.declared.turns.Turn.{Turn}
+use Rattle.listing.specs.Turns.{turnsFrom, turnsOf}
 
 abbrev pub linesOf : List Turn → List Line
 linesOf ts = map (λ (t : Turn). t .line) ts

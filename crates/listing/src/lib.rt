@@ -4,17 +4,27 @@ ghost use mathlib.Core.Path.{_≡_};
 ghost use Prim.Native.Nat.{_+_, _-_, _<_, _≤_};
 ghost use lib.ListN.{length, drop};
 ghost use Rattle.text.specs.Put.{Put};
-ghost use Rattle.lines.specs.Lines.{textAll};
-ghost use Rattle.turns.specs.Late.{turnsLate};
+ghost use Rattle.listing.specs.Lines.{textAll};
+ghost use Rattle.listing.specs.TurnsLate.{turnsLate};
 ghost use Rattle.listing.specs.Printed.{linesOf, textFrom};
 ghost use Rattle.listing.specs.Listed.{roomFor, listedOf, leftIn};
 ghost use Rattle.listing.specs.Late.{printedLate, listedLate, leftLate};
-use lines::Line;
 use refusals::Refusal;
-use steps::Run;
-use turns::counted;
+use script_steps::Run;
 use turns::next_line;
-use turns::one_turn;
+
+mod ending;
+mod lines;
+mod turns;
+
+pub use ending::Ended;
+pub use ending::run_script;
+pub use lines::Line;
+pub use lines::put_line;
+pub use turns::Reached;
+pub use turns::counted;
+pub use turns::next_frame;
+pub use turns::one_turn;
 
 pub enum Listed {
     Count(usize),
@@ -51,7 +61,7 @@ fn list_fields(run: Run, n: u64, at: usize, w: usize, script: &[u8], out: &mut [
 fn list_turns(start: u64, script: &[u8], out: &mut [u8]) -> usize
     ensures { λ r. ⌜ Put (now (out .entry)) (now (out .exit)) 0 r (textAll (linesOf (turnsLate start (now (script .entry))))) ⌝ }
 {
-    let turn = one_turn(steps::fresh(), 1, script);
+    let turn = one_turn(script_steps::fresh(), 1, script);
     let line = turn.line;
     let w = lines::put_line(out, 0, line);
     let k = turn.taken;

@@ -9,18 +9,18 @@ use lib.Dec.{T, eqb, ltb, leb}
 use lib.ListN.{length, getD, drop}
 use lib.Ieee.{Float, binary32, fits, ofBits, ofFields, odd, le, lt, eq}
 use lib.Ieee.Bits.{ofBits-fits}
-use Rattle.lists.specs.Pick.{by-case, picked, passed}
-use Rattle.lists.specs.Table.{length-table}
+use Rattle.sequences.specs.Pick.{by-case, picked, passed}
+use Rattle.sequences.specs.Table.{length-table}
 use Rattle.floats.specs.Names.{div32, asFloat}
 use Rattle.refusals.specs.declared.Answer.{Answer}
 use Rattle.settings.specs.Settings.{lawfulRate}
-use Rattle.fields.specs.declared.Kind.{Kind}
-use Rattle.fields.specs.declared.Kind.the-variants as K
-use Rattle.fields.specs.Bytes.{be16, be32, f32At}
-use Rattle.fields.specs.Table.{kindOf, lawful, lengthOf, fieldOf}
+use Rattle.script.specs.declared.fields.Kind.{Kind}
+use Rattle.script.specs.declared.fields.Kind.the-variants as K
+use Rattle.script.specs.Bytes.{be16, be32, f32At}
+use Rattle.script.specs.Table.{kindOf, lawful, lengthOf, fieldOf}
 use Rattle.script.specs.Field.{bodyOf, misplaced, unknown, readOf}
-use Rattle.bin_tables.specs.Bins.{logAt, logsOf, preparedOf}
-use Rattle.bin_tables.specs.Logs.{lawfulLogs}
+use Rattle.mask_gains.specs.Bins.{logAt, logsOf, preparedOf}
+use Rattle.mask_gains.specs.Logs.{lawfulLogs}
 use Rattle.mask_laws.proofs.Prepared.{prepared-lawful}
 use Rattle.mask_files.specs.Masks.{standard, rateIn, rateBy, rateOf, binsOf, logsFor}
 

@@ -6,12 +6,12 @@ use mathlib.Core.List.{List, []}
 use native.Mathlib.Omega.{arith}
 use lib.Ieee.{Float, nan}
 use lib.ListN.{length, drop}
-use Rattle.casts.proofs.Sat.{no}
-use Rattle.lines.specs.declared.Line.{Line}
-use Rattle.lines.specs.declared.Line.the-variants as L
-use Rattle.turns.specs.declared.Reached.{Reached}
-use Rattle.turns.specs.declared.Turn.{Turn}
-use Rattle.turns.specs.Reaching.{isFrameless}
+use Rattle.floats.proofs.Sat.{no}
+use Rattle.listing.specs.declared.lines.Line.{Line}
+use Rattle.listing.specs.declared.lines.Line.the-variants as L
+use Rattle.listing.specs.declared.turns.Reached.{Reached}
+use Rattle.listing.specs.declared.turns.Turn.{Turn}
+use Rattle.listing.specs.Reaching.{isFrameless}
 use Rattle.mask_files.specs.declared.Made.{Made}
 use Rattle.mask_files.specs.declared.Made.the-variants as M
 use Rattle.mask_files.specs.declared.Step.{Step}

@@ -10,8 +10,8 @@ use Rattle.text.proofs.Laws.{nothing, seq, spliced}
 use Rattle.refusals.specs.declared.Answer.{Answer}
 use Rattle.refusals.specs.declared.Answer.the-variants.{Taken, Refused}
 use Rattle.refusals.specs.declared.Refusal.{Refusal}
-use Rattle.steps.specs.Steps.{fresh}
-use Rattle.turns.specs.Turns.{turnsOf}
+use Rattle.script_steps.specs.Steps.{fresh}
+use Rattle.listing.specs.Turns.{turnsOf}
 use Rattle.mask_records.specs.Placed.{sizeOf}
 use Rattle.mask_files.specs.declared.Measured.{Measured}
 use Rattle.mask_files.specs.declared.Walk.{Walk}

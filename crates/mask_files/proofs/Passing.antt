@@ -9,8 +9,8 @@ use lib.Ieee.{Float}
 use lib.ListN.{length, drop}
 use lib.Seq.{drop-drop}
 use borrow.Author.Tests.{eq-eqb, ne-eqb, eqb-true}
-use Rattle.casts.proofs.Sat.{no}
-use Rattle.lists.specs.Pick.{picked, passed, by-case}
+use Rattle.floats.proofs.Sat.{no}
+use Rattle.sequences.specs.Pick.{picked, passed, by-case}
 use Rattle.refusals.specs.declared.Answer.{Answer}
 use Rattle.refusals.specs.declared.Answer.the-variants.{Taken}
 use Rattle.refusals.specs.declared.Refusal.{Refusal}
@@ -19,19 +19,19 @@ use Rattle.script.specs.declared.Read.the-variants as S
 use Rattle.script.specs.Field.{readOf}
 use Rattle.script.proofs.Taken as Read-takes
 use Rattle.state.specs.State.{grown}
-use Rattle.steps.specs.declared.Run.{Run}
-use Rattle.steps.specs.declared.Reply.{Reply}
-use Rattle.steps.specs.declared.Reply.the-variants as R
-use Rattle.steps.specs.Steps.{stepOf}
+use Rattle.script_steps.specs.declared.Run.{Run}
+use Rattle.script_steps.specs.declared.Reply.{Reply}
+use Rattle.script_steps.specs.declared.Reply.the-variants as R
+use Rattle.script_steps.specs.Steps.{stepOf}
 use Rattle.windows.specs.declared.Frame.{Frame}
-use Rattle.lines.specs.declared.Line.{Line}
-use Rattle.lines.specs.declared.Line.the-variants as L
-use Rattle.turns.specs.declared.Reached.{Reached}
-use Rattle.turns.specs.declared.Until.the-variants as U
-use Rattle.turns.specs.Turns.{refusalOf, repliedOf, afterOf, turnOf, turnsFrom}
-use Rattle.turns.specs.Reaching.{isFrameless, goesOn, reachedAt, reachedFrom}
-use Rattle.turns.proofs.Going.{on-takes, none-ends}
-use Rattle.turns.proofs.Laws.{taken-left}
+use Rattle.listing.specs.declared.lines.Line.{Line}
+use Rattle.listing.specs.declared.lines.Line.the-variants as L
+use Rattle.listing.specs.declared.turns.Reached.{Reached}
+use Rattle.listing.specs.declared.turns.Until.the-variants as U
+use Rattle.listing.specs.Turns.{refusalOf, repliedOf, afterOf, turnOf, turnsFrom}
+use Rattle.listing.specs.Reaching.{isFrameless, goesOn, reachedAt, reachedFrom}
+use Rattle.listing.proofs.Going.{on-takes, none-ends}
+use Rattle.listing.proofs.TurnLaws.{taken-left}
 use Rattle.mask_files.specs.Records.{filedBy, filedOf}
 
 -- the file of the turns from field n on

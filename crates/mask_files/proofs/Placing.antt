@@ -5,13 +5,13 @@ use mathlib.Core.List.{List}
 use borrow.Author.Tests.{lt-ltb, le-ltb, le-leb, lt-leb}
 use lib.Ieee.{Float}
 use lib.ListN.{length}
-use Rattle.lists.specs.Pick.{took, skipped}
+use Rattle.sequences.specs.Pick.{took, skipped}
 use Rattle.text.specs.Put.{splice}
 use Rattle.refusals.specs.declared.Answer.{Answer}
 use Rattle.refusals.specs.declared.Answer.the-variants as A
 use Rattle.refusals.specs.declared.Refusal.{Refusal}
 use Rattle.refusals.specs.declared.Refusal.the-variants.{Size, Script, Room}
-use Rattle.turns.specs.Turns.{turnsOf}
+use Rattle.listing.specs.Turns.{turnsOf}
 use Rattle.mask_files.specs.declared.Filed.{Filed}
 use Rattle.mask_files.specs.declared.Filed.the-variants.{Upto, Refused}
 use Rattle.mask_files.specs.declared.Measured.{Measured}

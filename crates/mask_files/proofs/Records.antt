@@ -4,19 +4,19 @@ use mathlib.Core.Bool.{Bool, true, false}
 use mathlib.Core.List.{List, [], _∷_, _++_}
 use Prim.Native.Nat.{ℕ}
 use lib.Ieee.{Float}
-use Rattle.casts.proofs.Sat.{no}
-use Rattle.lists.specs.Pick.{by-case, picked, passed}
+use Rattle.floats.proofs.Sat.{no}
+use Rattle.sequences.specs.Pick.{by-case, picked, passed}
 use Rattle.refusals.specs.declared.Answer.{Answer}
 use Rattle.refusals.specs.declared.Answer.the-variants.{Taken, Refused}
 use Rattle.refusals.specs.declared.Refusal.{Refusal}
 use Rattle.refusals.specs.declared.Refusal.the-variants.{Attenuation}
 use Rattle.windows.specs.declared.Frame.{Frame}
-use Rattle.lines.specs.declared.Line.{Line}
-use Rattle.lines.specs.declared.Line.the-variants as L
-use Rattle.turns.specs.declared.Turn.{Turn}
+use Rattle.listing.specs.declared.lines.Line.{Line}
+use Rattle.listing.specs.declared.lines.Line.the-variants as L
+use Rattle.listing.specs.declared.turns.Turn.{Turn}
 use Rattle.mask_records.specs.Bytes.{recordOf, fileOf}
 use Rattle.mask_records.specs.Written.{entriesOf}
-use Rattle.mask_records_laws.specs.Files.{Record}
+use Rattle.mask_laws.specs.Files.{Record}
 use Rattle.mask_files.specs.Records.{allNumbers, filedBy, filedOf, recordBy, recordsIn}
 
 is-taken : Answer → Bool

@@ -9,8 +9,8 @@ use lib.Ieee.{Float, nan}
 use lib.ListN.{length, drop, length-drop, length-append}
 use lib.Seq.{drop-drop}
 use borrow.Author.Tests.{eq-eqb, le-ltb, le-leb, leb-true, leb-false}
-use Rattle.casts.proofs.Sat.{no}
-use Rattle.lists.specs.Pick.{pick, by-case, picked, passed, took, skipped}
+use Rattle.floats.proofs.Sat.{no}
+use Rattle.sequences.specs.Pick.{pick, by-case, picked, passed, took, skipped}
 use Rattle.text.specs.Put.{splice}
 use Rattle.refusals.specs.declared.Answer.{Answer}
 use Rattle.refusals.specs.declared.Answer.the-variants.{Taken, Refused}
@@ -18,23 +18,23 @@ use Rattle.refusals.specs.declared.Refusal.{Refusal}
 use Rattle.refusals.specs.declared.Refusal.the-variants.{Room, Attenuation}
 use Rattle.state.specs.State.{grown}
 use Rattle.windows.specs.declared.Frame.{Frame}
-use Rattle.bin_tables.specs.Logs.{lawfulLogs}
-use Rattle.frame_values.specs.declared.Values.{Values}
-use Rattle.lines.specs.declared.Line.{Line}
-use Rattle.lines.specs.declared.Line.the-variants as L
-use Rattle.turns.specs.declared.Reached.{Reached}
-use Rattle.turns.specs.declared.Turn.{Turn}
-use Rattle.turns.specs.Turns.{turnOf}
-use Rattle.turns.specs.Reaching.{isFrameless}
-use Rattle.turns.proofs.Laws.{taken-left}
-use Rattle.ending.specs.Ended.{badOf}
+use Rattle.mask_gains.specs.Logs.{lawfulLogs}
+use Rattle.script_steps.specs.declared.values.Values.{Values}
+use Rattle.listing.specs.declared.lines.Line.{Line}
+use Rattle.listing.specs.declared.lines.Line.the-variants as L
+use Rattle.listing.specs.declared.turns.Reached.{Reached}
+use Rattle.listing.specs.declared.turns.Turn.{Turn}
+use Rattle.listing.specs.Turns.{turnOf}
+use Rattle.listing.specs.Reaching.{isFrameless}
+use Rattle.listing.proofs.TurnLaws.{taken-left}
+use Rattle.listing.specs.Ended.{badOf}
 use Rattle.mask_records.specs.declared.Written.{Written}
 use Rattle.mask_records.specs.declared.Written.the-variants as W
 use Rattle.mask_records.specs.Bytes.{recordOf}
 use Rattle.mask_records.specs.Placed.{sizeOf}
 use Rattle.mask_records.specs.Written.{entriesOf, scratchOf, writtenOf}
 use Rattle.mask_records.proofs.Pairs.{record-length}
-use Rattle.mask_records_laws.proofs.Frames.{entries-count}
+use Rattle.mask_laws.proofs.Frames.{entries-count}
 use Rattle.mask_files.specs.declared.Made.{Made}
 use Rattle.mask_files.specs.declared.Made.the-variants as M
 use Rattle.mask_files.specs.declared.Step.{Step}

@@ -7,12 +7,12 @@ use native.Mathlib.Omega.{arith}
 use lib.Ieee.{Float}
 use lib.ListN.{length, drop}
 use lib.Seq.{drop-length, drop-nil, drop-drop}
-use Rattle.casts.proofs.Sat.{no}
-use Rattle.frame_values.specs.declared.Values.{Values}
-use Rattle.lines.specs.declared.Line.{Line}
-use Rattle.lines.specs.declared.Line.the-variants as L
-use Rattle.turns.specs.declared.Reached.{Reached}
-use Rattle.turns.specs.Reaching.{isFrameless}
+use Rattle.floats.proofs.Sat.{no}
+use Rattle.script_steps.specs.declared.values.Values.{Values}
+use Rattle.listing.specs.declared.lines.Line.{Line}
+use Rattle.listing.specs.declared.lines.Line.the-variants as L
+use Rattle.listing.specs.declared.turns.Reached.{Reached}
+use Rattle.listing.specs.Reaching.{isFrameless}
 use Rattle.mask_records.specs.declared.Written.{Written}
 use Rattle.mask_records.specs.Written.{writtenOf}
 use Rattle.mask_files.specs.declared.Made.{Made}

@@ -5,21 +5,21 @@ use mathlib.Core.List.{List}
 use lib.Dec.{ltb, leb}
 use lib.ListN.{length}
 use lib.Ieee.{Float}
-use Rattle.lists.specs.Pick.{pick}
+use Rattle.sequences.specs.Pick.{pick}
 use Rattle.text.specs.Put.{splice}
 use Rattle.floats.specs.Names.{f32, div32, asFloat}
 use Rattle.refusals.specs.declared.Answer.{Answer}
 use Rattle.refusals.specs.declared.Answer.the-variants as A
 use Rattle.refusals.specs.declared.Refusal.the-variants.{Size, Script, Room}
 use Rattle.settings.specs.Settings.{lawfulRate}
-use Rattle.bin_tables.specs.Bins.{logsOf}
-use Rattle.fields.specs.declared.Field.{Field}
-use Rattle.fields.specs.declared.Field.the-variants as F
+use Rattle.mask_gains.specs.Bins.{logsOf}
+use Rattle.script.specs.declared.fields.Field.{Field}
+use Rattle.script.specs.declared.fields.Field.the-variants as F
 use Rattle.script.specs.declared.Read.{Read}
 use Rattle.script.specs.declared.Read.the-variants as S
 use Rattle.script.specs.Field.{readOf}
-use Rattle.turns.specs.Turns.{turnsOf}
-use Rattle.mask_records_laws.specs.Files.{Record}
+use Rattle.listing.specs.Turns.{turnsOf}
+use Rattle.mask_laws.specs.Files.{Record}
 use Rattle.mask_files.specs.declared.Filed.{Filed}
 use Rattle.mask_files.specs.declared.Filed.the-variants.{Upto, Refused}
 use Rattle.mask_files.specs.Records.{filedOf, recordsIn}

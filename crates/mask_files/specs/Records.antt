@@ -4,19 +4,19 @@ use mathlib.Core.Bool.{Bool}
 use mathlib.Core.List.{List, [], _∷_, _++_}
 use lib.Ieee.{Float}
 use lib.ListN.{length}
-use Rattle.lists.specs.All.{all}
-use Rattle.lists.specs.Pick.{pick}
+use Rattle.sequences.specs.All.{all}
+use Rattle.sequences.specs.Pick.{pick}
 use Rattle.refusals.specs.declared.Answer.{Answer}
 use Rattle.refusals.specs.declared.Answer.the-variants.{Taken, Refused}
 use Rattle.refusals.specs.declared.Refusal.the-variants.{Attenuation}
 use Rattle.windows.specs.declared.Frame.{Frame}
-use Rattle.lines.specs.declared.Line.{Line}
-use Rattle.lines.specs.declared.Line.the-variants as L
-use Rattle.turns.specs.declared.Turn.{Turn}
+use Rattle.listing.specs.declared.lines.Line.{Line}
+use Rattle.listing.specs.declared.lines.Line.the-variants as L
+use Rattle.listing.specs.declared.turns.Turn.{Turn}
 use Rattle.mask_records.specs.Bytes.{recordOf}
 use Rattle.mask_records.specs.Entries.{attenuationAt, isNumber}
 use Rattle.mask_records.specs.Written.{entriesOf}
-use Rattle.mask_records_laws.specs.Files.{Record}
+use Rattle.mask_laws.specs.Files.{Record}
 
 -- refusal 18 hangs on any bin
 unfoldable pub allNumbers : Frame → Float → List Float → Bool

@@ -5,13 +5,13 @@ use lib.ListN.{length, drop}
 use lib.Ieee.{Float}
 use Rattle.refusals.specs.declared.Answer.{Answer}
 use Rattle.state.specs.State.{grown}
-use Rattle.steps.specs.Steps.{fresh}
+use Rattle.script_steps.specs.Steps.{fresh}
 use Rattle.windows.specs.declared.Frame.{Frame}
-use Rattle.lines.specs.declared.Line.{Line}
-use Rattle.lines.specs.declared.Line.the-variants as L
-use Rattle.turns.specs.declared.Reached.{Reached}
-use Rattle.turns.specs.declared.Until.the-variants as U
-use Rattle.turns.specs.Reaching.{reachedOf}
+use Rattle.listing.specs.declared.lines.Line.{Line}
+use Rattle.listing.specs.declared.lines.Line.the-variants as L
+use Rattle.listing.specs.declared.turns.Reached.{Reached}
+use Rattle.listing.specs.declared.turns.Until.the-variants as U
+use Rattle.listing.specs.Reaching.{reachedOf}
 use Rattle.mask_records.specs.declared.Written.{Written}
 use Rattle.mask_records.specs.declared.Written.the-variants as W
 use Rattle.mask_records.specs.Written.{writtenOf}

@@ -6,15 +6,15 @@ ghost use Rattle.mask_files.specs.Walk.{startOf, afterOf, madeOf, stepOf
 use crate::Made;
 use crate::Step;
 use crate::Walk;
-use lines::Line;
+use listing::Line;
+use listing::Reached;
 use mask_records::Written;
-use turns::Reached;
 
 // The walk before a script's first field.
 pub fn start() -> Walk
     ensures { λ r. ⌜ r ≡ startOf ⌝ }
 {
-    let run = steps::fresh();
+    let run = script_steps::fresh();
     Walk { run, n: 1, at: 0 }
 }
 
@@ -64,7 +64,7 @@ pub fn next_record(
 {
     let from = inside(walk.at, script);
     let run = walk.run;
-    let reached = turns::next_frame(run, walk.n, &script[from..]);
+    let reached = listing::next_frame(run, walk.n, &script[from..]);
     let next = behind(walk, reached);
     let turn = reached.turn;
     let line = turn.line;

@@ -1,4 +1,9 @@
 // The mask file of a whole script: a record for each accepted frame, one behind the other.
+use listing::Line;
+use refusals::Answer;
+use refusals::Refusal;
+use script_steps::Run;
+
 mod file;
 mod frames;
 mod rate;
@@ -6,11 +11,7 @@ mod rate;
 pub use file::masks;
 pub use frames::next_record;
 pub use frames::start;
-use lines::Line;
 pub use rate::prepare;
-use refusals::Answer;
-use refusals::Refusal;
-use steps::Run;
 
 // Where a walk over a script stands: before field n, which stands at `at`, with what the fields
 // before it left.

@@ -1,9 +1,9 @@
 // The bins of a script's masks: their logarithms go by the rate that its first field gives.
 ghost use mathlib.Core.Path.{_≡_};
-ghost use Rattle.bin_tables.specs.Bins.{preparedOf};
+ghost use Rattle.mask_gains.specs.Bins.{preparedOf};
 ghost use Rattle.mask_files.specs.Masks.{rateIn, rateOf};
-use fields::Field;
 use refusals::Answer;
+use script::Field;
 use script::Read;
 
 fn rate_in(field: Field) -> f32
@@ -11,7 +11,7 @@ fn rate_in(field: Field) -> f32
 {
     match field {
         Field::Rate(rate) => {
-            if bin_tables::lawful_rate(rate) {
+            if mask_gains::lawful_rate(rate) {
                 rate
             } else {
                 48000.0
@@ -48,5 +48,5 @@ fn rate(script: &[u8]) -> f32
 pub fn prepare(script: &[u8], fft_size: usize, logs: &mut [f32]) -> Answer
     ensures { λ r. ⌜ (r, now (logs .exit)) ≡ preparedOf (rateOf (now (script .entry))) «fft_size» (now (logs .entry)) ⌝ }
 {
-    bin_tables::bin_table(rate(script), fft_size, logs)
+    mask_gains::bin_table(rate(script), fft_size, logs)
 }

@@ -11,26 +11,26 @@ use lib.Ieee.{Float, nan, binary32, ofBits, neg, sub, mul, div, lt, le, eq, fits
 use lib.Ieee.Bits.{is-false}
 use lib.Ieee.Fits.{sub-fits, mul-fits, cond-fits}
 use lib.Ieee.Scale.{finite}
-use Rattle.lists.specs.Every.{Every}
-use Rattle.lists.specs.Pick.{by-case}
-use Rattle.lists.specs.Walk.{walk}
-use Rattle.choices.specs.Choose.{max, clamp, abs}
+use Rattle.sequences.specs.Every.{Every}
+use Rattle.sequences.specs.Pick.{by-case}
+use Rattle.sequences.specs.Walk.{walk}
+use Rattle.floats.specs.Choose.{max, clamp, abs}
 use Rattle.floats_laws.proofs.Choosing.{max-fits, clamp-fits, clamp-most}
 use Rattle.floats_laws.proofs.Ends.{not-above, not-le→lt}
 use Rattle.floats_laws.proofs.Gap.{quotient-number, one-number}
 use Rattle.floats_laws.proofs.Products.{product-to-zero}
 use Rattle.floats_laws.proofs.Rising.{nought}
 use Rattle.floats_laws.proofs.Rules.{lt→le, le-left, le-right, le-trans, add-number, neg-finite, finite-number}
-use Rattle.choices.proofs.Sign.{abs-number}
+use Rattle.floats.proofs.Sign.{abs-number}
 use Rattle.floats_laws.proofs.Units.{one as i, zero-fits, one-fits, unit}
 use Rattle.windows.specs.declared.Window.{Window}
 use Rattle.floats.specs.Names.{nil, one}
 use Rattle.windows.specs.Opening.{taperOf, insideOf, opennessOf}
-use Rattle.attenuation.specs.Attenuation.{opening, openedBy}
+use Rattle.windows.specs.Attenuation.{opening, openedBy}
 use Rattle.windows_laws.proofs.Tapered.{taper-finite}
-use Rattle.openings.specs.Opened.{touches, raisedOf, raising, openAt}
-use Rattle.bin_tables.specs.Logs.{lawfulLogs}
-use Rattle.openings.proofs.Ordered.{all-finite}
+use Rattle.mask_gains.specs.Opened.{touches, raisedOf, raising, openAt}
+use Rattle.mask_gains.specs.Logs.{lawfulLogs}
+use Rattle.mask_gains.proofs.Ordered.{all-finite}
 use Rattle.mask_laws.specs.Finite.{Finite}
 use Rattle.mask_laws.proofs.Shut.{shut}
 

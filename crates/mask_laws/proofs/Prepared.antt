@@ -17,9 +17,9 @@ use lib.Ieee.Exact.{HasValue}
 use lib.Ieee.Fits.{and-l, and-r, and-i, up-pos, down-pos, mul-fits, div-fits}
 use lib.Ieee.Order.{round-mono}
 use lib.Ieee.Scale.{finite}
-use Rattle.lists.specs.All.{all, all-of}
-use Rattle.lists.specs.Pick.{passed, by-case}
-use Rattle.lists.specs.Table.{length-table, table-at}
+use Rattle.sequences.specs.All.{all, all-of}
+use Rattle.sequences.specs.Pick.{passed, by-case}
+use Rattle.sequences.specs.Table.{length-table, table-at}
 use Rattle.elementary.specs.Log2.{log2Of}
 use Rattle.elementary_laws.proofs.LogExact.{log2-fits}
 use Rattle.elementary_laws.proofs.LogRises.{log2-within, log2-rises}
@@ -37,8 +37,8 @@ use Rattle.floats_laws.proofs.Spans.{least-above}
 use Rattle.floats_laws.proofs.Through.{lt-le}
 use Rattle.floats_laws.proofs.Units.{one as i, zero-fits, one-times}
 use Rattle.settings.specs.Settings.{lawfulRate}
-use Rattle.bin_tables.specs.Bins.{logAt, logsOf}
-use Rattle.bin_tables.specs.Logs.{lawfulAt, lawfulLogs}
+use Rattle.mask_gains.specs.Bins.{logAt, logsOf}
+use Rattle.mask_gains.specs.Logs.{lawfulAt, lawfulLogs}
 
 -- ---- a rate over a size
 abbrev lowest : Float

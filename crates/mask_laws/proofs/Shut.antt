@@ -11,9 +11,9 @@ use lib.Ieee.{Float, nan, inf, fin, binary32, ofBits, up, down, round, add, sub,
 use lib.Ieee as Ieee
 use lib.Ieee.Fits.{up-pos, down-pos, add-fits, sub-fits, div-fits, neg-fits}
 use lib.Ieee.Scale.{finite, round-same}
-use Rattle.lists.specs.Pick.{by-case}
-use Rattle.choices.specs.Choose.{clamp, abs}
-use Rattle.casts.proofs.Values.{own-round, same-fin}
+use Rattle.sequences.specs.Pick.{by-case}
+use Rattle.floats.specs.Choose.{clamp, abs}
+use Rattle.floats.proofs.Values.{own-round, same-fin}
 use Rattle.floats_laws.proofs.Ends.{not-le→lt}
 use Rattle.floats_laws.proofs.Mono.{le→signed}
 use Rattle.floats_laws.proofs.Rising.{nought, neg-falls, not-above, not-itself}
@@ -23,7 +23,7 @@ use Rattle.floats_laws.proofs.Units.{one as i, zero-fits}
 use Rattle.windows.specs.declared.Window.{Window}
 use Rattle.floats.specs.Names.{nil, one}
 use Rattle.windows.specs.Opening.{cubic, taperOf, insideOf, opennessOf}
-use Rattle.openings.specs.Opened.{touches}
+use Rattle.mask_gains.specs.Opened.{touches}
 
 -- ---- at or below 0 the taper is 0
 cubic-zero : (s : Bool) → cubic (fin s 0 (pos 0)) ≡ nought

@@ -6,10 +6,10 @@ use mathlib.Core.List.{List}
 use lib.Dec.{leb}
 use lib.ListN.{length, getD}
 use lib.Ieee.{Float, nan}
-use Rattle.casts.proofs.Sat.{no}
-use Rattle.lists.specs.All.{all}
-use Rattle.lists.specs.Pick.{pick, took, skipped}
-use Rattle.lists.specs.Table.{length-table}
+use Rattle.floats.proofs.Sat.{no}
+use Rattle.sequences.specs.All.{all}
+use Rattle.sequences.specs.Pick.{pick, took, skipped}
+use Rattle.sequences.specs.Table.{length-table}
 use Rattle.text.specs.Put.{splice}
 use Rattle.refusals.specs.declared.Refusal.{Refusal}
 use Rattle.refusals.specs.declared.Refusal.the-variants.{Room, Attenuation}

@@ -4,3 +4,6 @@ pub mod Answers
 pub mod Ways
 pub mod Records
 pub mod Sought
+pub mod Ruled
+pub mod Exact
+pub mod Nearest

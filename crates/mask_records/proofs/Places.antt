@@ -6,7 +6,7 @@ use mathlib.Core.List.{List}
 use lib.ListN.{length, getD, set, length-append}
 use lib.Seq.{paste, take-length}
 use borrow.Author.Tests.{le-leb, lt-leb}
-use Rattle.lists.specs.Pick.{took, skipped}
+use Rattle.sequences.specs.Pick.{took, skipped}
 use Rattle.text.specs.Put.{Put, splice, bufferOf, placeOf}
 use Rattle.text.proofs.Laws.{piece, spliced, seq, turn}
 use Rattle.refusals.specs.declared.Refusal.the-variants.{Room}

@@ -8,11 +8,11 @@ use lib.Dec.{T, eqb, leb, leb→le}
 use lib.ListN.{length, getD, take, drop}
 use lib.Seq.{length-take-le}
 use lib.Ieee.Fits.{and-l, and-r}
-use Rattle.lists.specs.All.{all}
-use Rattle.lists.specs.Pick.{pick, took, skipped}
-use Rattle.lists.specs.Table.{table}
-use Rattle.fields.specs.Bytes.{be16, be64}
-use Rattle.decibels.specs.Entries.{isEntry}
+use Rattle.sequences.specs.All.{all}
+use Rattle.sequences.specs.Pick.{pick, took, skipped}
+use Rattle.sequences.specs.Table.{table}
+use Rattle.script.specs.Bytes.{be16, be64}
+use Rattle.mask_records.specs.Decibels.{isEntry}
 use Rattle.refusals.specs.declared.Refusal.the-variants.{Room, Record}
 use Rattle.mask_records.specs.declared.Read.{Read}
 use Rattle.mask_records.specs.declared.Read.the-variants.{End, Found, Refused}

@@ -8,9 +8,9 @@ use mathlib.Core.List.{List, [], _∷_}
 use borrow.Author.Tests.{eq-eqb, ne-eqb, eqb-true, eqb-false, leb-true, leb-false}
 use lib.Dec.{eqb, leb}
 use lib.ListN.{length, getD}
-use Rattle.lists.specs.Pick.{by-case}
-use Rattle.decibels.specs.Entries.{entries, entryOf, among, isEntry}
-use Rattle.decibels.proofs.Ruled.{entries-long, never-rises}
+use Rattle.sequences.specs.Pick.{by-case}
+use Rattle.mask_records.specs.Decibels.{entries, entryOf, among, isEntry}
+use Rattle.mask_records.proofs.Ruled.{entries-long, never-rises}
 
 -- ---- what `among` says
 pub among-at : (e : ℕ) (xs : List ℕ) (k : ℕ) → k < length xs → getD xs k 0 ≡ e → among e xs ≡ true

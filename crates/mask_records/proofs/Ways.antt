@@ -7,21 +7,21 @@ use borrow.Author.Tests.{eq-eqb, le-ltb}
 use lib.Dec.{leb}
 use lib.ListN.{length, getD}
 use lib.Ieee.{Float, nan, isNan, ofBits}
-use Rattle.lists.specs.All.{all, all-same, all-true}
-use Rattle.lists.specs.Pick.{pick, picked, passed, took, skipped}
-use Rattle.lists.specs.Table.{table, table-at, table-same, length-table}
+use Rattle.sequences.specs.All.{all, all-same, all-true}
+use Rattle.sequences.specs.Pick.{pick, picked, passed, took, skipped}
+use Rattle.sequences.specs.Table.{table, table-at, table-same, length-table}
 use Rattle.text.specs.Put.{splice}
 use Rattle.floats.specs.Names.{nil}
-use Rattle.decibels.specs.Entries.{entryOf}
-use Rattle.decibels.proofs.Nearest.{no-tenths}
-use Rattle.decibels.proofs.Ruled.{first-entry}
+use Rattle.mask_records.specs.Decibels.{entryOf}
+use Rattle.mask_records.proofs.Nearest.{no-tenths}
+use Rattle.mask_records.proofs.Ruled.{first-entry}
 use Rattle.refusals.specs.declared.Answer.{Answer}
 use Rattle.refusals.specs.declared.Refusal.the-variants.{Room, Attenuation}
 use Rattle.windows.specs.declared.Window.{Window}
 use Rattle.windows.specs.declared.Frame.{Frame}
-use Rattle.bin_tables.specs.Logs.{lawfulLogs}
-use Rattle.openings.specs.Opened.{openAt, openedOf}
-use Rattle.mask.specs.Gains.{levelOf, quietOf}
+use Rattle.mask_gains.specs.Logs.{lawfulLogs}
+use Rattle.mask_gains.specs.Opened.{openAt, openedOf}
+use Rattle.mask_gains.specs.Gains.{levelOf, quietOf}
 use Rattle.mask_records.specs.declared.Written.{Written}
 use Rattle.mask_records.specs.declared.Written.the-variants.{Upto, Refused}
 use Rattle.mask_records.specs.Bytes.{recordOf}

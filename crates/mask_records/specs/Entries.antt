@@ -3,13 +3,13 @@ use Prim.Native.Nat.{ℕ}
 use mathlib.Core.Bool.{Bool, not}
 use mathlib.Core.List.{List}
 use lib.Ieee.{Float, neg, isNan}
-use Rattle.lists.specs.Pick.{pick}
+use Rattle.sequences.specs.Pick.{pick}
 use Rattle.floats.specs.Names.{sub32, mul32, nil, one}
-use Rattle.decibels.specs.Entries.{entryOf}
-use Rattle.decibels.specs.Tenths.{tenthsOf}
+use Rattle.mask_records.specs.Decibels.{entryOf}
+use Rattle.mask_records.specs.Tenths.{tenthsOf}
 use Rattle.windows.specs.declared.Frame.{Frame}
-use Rattle.openings.specs.Opened.{openAt}
-use Rattle.mask.specs.Gains.{levelOf, quietOf}
+use Rattle.mask_gains.specs.Opened.{openAt}
+use Rattle.mask_gains.specs.Gains.{levelOf, quietOf}
 
 -- minus what the mask call hands to `db_to_gain`: -(level * (1.0 - openness))
 unfoldable pub attenuationOf : Float → Float → Float

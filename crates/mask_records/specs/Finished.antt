@@ -4,9 +4,9 @@ use mathlib.Core.List.{List}
 use lib.Dec.{leb}
 use lib.ListN.{length, getD}
 use lib.Ieee.{Float, nan}
-use Rattle.lists.specs.All.{all}
-use Rattle.lists.specs.Pick.{pick}
-use Rattle.lists.specs.Table.{table}
+use Rattle.sequences.specs.All.{all}
+use Rattle.sequences.specs.Pick.{pick}
+use Rattle.sequences.specs.Table.{table}
 use Rattle.text.specs.Put.{splice}
 use Rattle.refusals.specs.declared.Refusal.the-variants.{Room, Attenuation}
 use Rattle.mask_records.specs.declared.Written.{Written}

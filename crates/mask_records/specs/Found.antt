@@ -4,11 +4,11 @@ use mathlib.Core.Bool.{Bool, _&&_}
 use mathlib.Core.List.{List, _++_}
 use lib.Dec.{eqb, leb}
 use lib.ListN.{length, getD, drop}
-use Rattle.lists.specs.All.{all}
-use Rattle.lists.specs.Pick.{pick}
-use Rattle.lists.specs.Table.{table}
-use Rattle.fields.specs.Bytes.{be16, be64}
-use Rattle.decibels.specs.Entries.{isEntry}
+use Rattle.sequences.specs.All.{all}
+use Rattle.sequences.specs.Pick.{pick}
+use Rattle.sequences.specs.Table.{table}
+use Rattle.script.specs.Bytes.{be16, be64}
+use Rattle.mask_records.specs.Decibels.{isEntry}
 use Rattle.refusals.specs.declared.Refusal.the-variants.{Room, Record}
 use Rattle.mask_records.specs.declared.Read.{Read}
 use Rattle.mask_records.specs.declared.Read.the-variants.{End, Found, Refused}

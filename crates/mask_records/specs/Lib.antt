@@ -4,3 +4,6 @@ pub mod Placed
 pub mod Finished
 pub mod Written
 pub mod Found
+pub mod Decibels
+pub mod Rule
+pub mod Tenths

@@ -3,7 +3,7 @@ use Prim.Native.Nat.{ℕ, _+_, _*_}
 use mathlib.Core.List.{List}
 use lib.Dec.{leb}
 use lib.ListN.{length}
-use Rattle.lists.specs.Pick.{pick}
+use Rattle.sequences.specs.Pick.{pick}
 use Rattle.text.specs.Put.{splice}
 use Rattle.refusals.specs.declared.Refusal.the-variants.{Room}
 use Rattle.mask_records.specs.declared.Written.{Written}

@@ -4,15 +4,15 @@ use mathlib.Core.List.{List}
 use lib.Dec.{eqb, ltb, leb}
 use lib.ListN.{length}
 use lib.Ieee.{Float}
-use Rattle.lists.specs.All.{all}
-use Rattle.lists.specs.Pick.{pick}
-use Rattle.lists.specs.Table.{table}
+use Rattle.sequences.specs.All.{all}
+use Rattle.sequences.specs.Pick.{pick}
+use Rattle.sequences.specs.Table.{table}
 use Rattle.text.specs.Put.{splice}
 use Rattle.refusals.specs.declared.Refusal.the-variants.{Lengths, Logs, Room, Attenuation, Record}
 use Rattle.windows.specs.declared.Frame.{Frame}
-use Rattle.bin_tables.specs.Logs.{lawfulLogs}
-use Rattle.openings.specs.Opened.{openAt}
-use Rattle.mask.specs.Gains.{quietOf}
+use Rattle.mask_gains.specs.Logs.{lawfulLogs}
+use Rattle.mask_gains.specs.Opened.{openAt}
+use Rattle.mask_gains.specs.Gains.{quietOf}
 use Rattle.mask_records.specs.declared.Written.{Written}
 use Rattle.mask_records.specs.declared.Written.the-variants.{Upto, Refused}
 use Rattle.mask_records.specs.Bytes.{recordOf}

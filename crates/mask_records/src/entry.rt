@@ -3,10 +3,11 @@ ghost use mathlib.Core.Path.{_≡_};
 ghost use mathlib.Core.Bool.{not, _&&_};
 ghost use lib.ListN.{length, getD};
 ghost use lib.Ieee.{nan};
-ghost use Rattle.lists.specs.All.{all};
-ghost use Rattle.lists.specs.Table.{table};
-ghost use Rattle.decibels.specs.Entries.{entries};
+ghost use Rattle.sequences.specs.All.{all};
+ghost use Rattle.sequences.specs.Table.{table};
+ghost use Rattle.mask_records.specs.Decibels.{entries};
 ghost use Rattle.mask_records.specs.Entries.{attenuationOf, isNumber, entryFor};
+use crate::decibels;
 
 pub fn attenuation(level: f32, openness: f32) -> f32
     ensures { λ r. ⌜ r ≡ attenuationOf level openness ⌝ }

@@ -2,17 +2,18 @@
 ghost use mathlib.Core.Path.{_≡_};
 ghost use Prim.Native.Nat.{_≤_};
 ghost use lib.ListN.{length};
-ghost use Rattle.lists.specs.All.{all};
-ghost use Rattle.lists.specs.Table.{table};
-ghost use Rattle.decibels.specs.Entries.{entries, isEntry};
+ghost use Rattle.sequences.specs.All.{all};
+ghost use Rattle.sequences.specs.Table.{table};
+ghost use Rattle.mask_records.specs.Decibels.{entries, isEntry};
 ghost use Rattle.mask_records.specs.Found.{headed, entryIn, readOf};
 use crate::Read;
+use crate::decibels;
 use crate::entry::both;
 use crate::search::is_entry;
-use fields::be16_at;
-use fields::be64_at;
-use fields::byte;
 use refusals::Refusal;
+use script::be16_at;
+use script::be64_at;
+use script::byte;
 
 fn is_headed(s: &[u8]) -> bool
     ensures { λ r. ⌜ r ≡ headed (now (s .entry)) ⌝ }

@@ -2,7 +2,7 @@
 ghost use mathlib.Core.Path.{_≡_};
 ghost use mathlib.Core.Bool.{cond};
 ghost use Prim.Native.Nat.{_≤_};
-ghost use Rattle.decibels.specs.Entries.{entries, isEntry};
+ghost use Rattle.mask_records.specs.Decibels.{entries, isEntry};
 
 // h or nothing: straight code, which compiles to a select.
 fn step_if(t: bool, h: usize) -> usize

@@ -4,13 +4,14 @@ ghost use mathlib.Core.Path.{_≡_};
 ghost use mathlib.Core.Bool.{true};
 ghost use Prim.Native.Nat.{_≤_};
 ghost use lib.ListN.{length};
-ghost use Rattle.lists.specs.Table.{table};
-ghost use Rattle.bin_tables.specs.Logs.{lawfulLogs};
-ghost use Rattle.openings.specs.Opened.{openAt};
+ghost use Rattle.sequences.specs.Table.{table};
+ghost use Rattle.mask_gains.specs.Logs.{lawfulLogs};
+ghost use Rattle.mask_gains.specs.Opened.{openAt};
 ghost use Rattle.mask_records.specs.Placed.{placedOf};
 ghost use Rattle.mask_records.specs.Finished.{finishedOf};
 ghost use Rattle.mask_records.specs.Written.{writtenOf};
 use crate::Written;
+use crate::decibels;
 use refusals::Refusal;
 use windows::Frame;
 use windows::Window;
@@ -70,7 +71,7 @@ fn shape(
     requires { ⌜ (length (now logs) ≤ 8193) × (length (now opened) ≡ length (now logs)) × (length (now entries) ≡ length (now logs)) × (length (now scratch) ≡ length (now logs)) × (lawfulLogs (now logs) ≡ true) ⌝ }
     ensures { λ r. ⌜ (r, now (scratch .exit), now (out .exit)) ≡ finishedOf sample level (table (length (now (logs .entry))) (openAt windows (now (logs .entry)))) (now (scratch .entry)) (now (out .entry)) at ⌝ }
 {
-    openings::open_bins(windows, logs, opened);
+    mask_gains::open_bins(windows, logs, opened);
     finish(sample, level, opened, entries, scratch, out, at)
 }
 
@@ -133,21 +134,21 @@ pub fn write_record(
     if scratch.len() != logs.len() {
         return Written::Refused(Refusal::Lengths);
     }
-    if bin_tables::lawful(logs) {
+    if mask_gains::lawful(logs) {
         if logs.len() < 1 {
             return Written::Refused(Refusal::Record);
         }
         if logs.len() > 8193 {
             return Written::Refused(Refusal::Record);
         }
-        if mask::quiet(depth_db, frame.activity) {
+        if mask_gains::quiet(depth_db, frame.activity) {
             return quiet(sample, logs.len(), out, at);
         }
         let windows = frame.windows;
         return loud(
             sample,
             windows,
-            mask::level(depth_db, frame.activity),
+            mask_gains::level(depth_db, frame.activity),
             logs,
             scratch,
             out,

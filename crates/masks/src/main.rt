@@ -6,7 +6,7 @@ ghost use mathlib.Core.Path.{_≡_};
 ghost use Prim.Native.Nat.{_≤_};
 ghost use Rattle.floats.specs.Names.{f32, div32, asFloat};
 ghost use Rattle.masks.specs.Digits.{heldOf, numberOf};
-use lines::Line;
+use listing::Line;
 use mask_files::Made;
 use refusals::Refusal;
 
@@ -67,7 +67,7 @@ fn depth(tenths: u64) -> f32
 
 // A line is at most 204 bytes long.
 fn say_line(text: &mut [u8], line: Line) {
-    let n = lines::put_line(text, 0, line);
+    let n = listing::put_line(text, 0, line);
     if n <= text.len() {
         io::write_all(2, &text[..n]);
     }

@@ -8,17 +8,17 @@ use lib.Seq.{drop-drop}
 use lib.Dec.{eqb}
 use Rattle.text.specs.Put.{bufferOf}
 use Rattle.text.proofs.Laws.{piece}
-use Rattle.fields.specs.declared.Field.{Field}
+use Rattle.script.specs.declared.fields.Field.{Field}
 use Rattle.script.specs.declared.Read.{Read}
 use Rattle.script.specs.declared.Read.the-variants as R
 use Rattle.script.specs.Field.{readOf}
 use Rattle.script.proofs.Taken as T
-use Rattle.script_reading.specs.Reading.{onward}
-use Rattle.script_reading.proofs.Steps.{field, wrong, end, onward-reads, only}
-use Rattle.writer.specs.Encoded.{encoded}
-use Rattle.writer.specs.Written.{writtenOf}
-use Rattle.writer_laws.specs.Events.{events}
-use Rattle.writer_laws.specs.InARow.{countAfter, bytesAfter}
+use Rattle.script.specs.Reading.{onward}
+use Rattle.script.proofs.Steps.{field, wrong, end, onward-reads, only}
+use Rattle.script_writer.specs.Encoded.{encoded}
+use Rattle.script_writer.specs.Written.{writtenOf}
+use Rattle.script_writer_laws.specs.Events.{events}
+use Rattle.script_writer_laws.specs.InARow.{countAfter, bytesAfter}
 use Rattle.oracle_rewrite.specs.Rewritten.{fieldIn, takenBy}
 
 -- ---- events one behind the other

@@ -2,9 +2,9 @@
 // writer alone.
 ghost use mathlib.Core.Path.{_≡_};
 ghost use Rattle.script.specs.Field.{readOf};
-ghost use Rattle.script_reading.specs.Reading.{onward, readingOf};
-ghost use Rattle.writer_laws.specs.Events.{events};
-ghost use Rattle.writer_laws.specs.InARow.{countAfter, bytesAfter};
+ghost use Rattle.script.specs.Reading.{onward, readingOf};
+ghost use Rattle.script_writer_laws.specs.Events.{events};
+ghost use Rattle.script_writer_laws.specs.InARow.{countAfter, bytesAfter};
 ghost use Rattle.oracle_rewrite.specs.Rewritten.{fieldIn, takenBy};
 use script::Read;
 
@@ -22,7 +22,7 @@ fn rewrite_field(script: &[u8], first: bool, out: &mut [u8], at: usize) -> Rewri
     let read = script::read_field(script, first);
     match read {
         Read::Field(field, taken) => {
-            let written = writer::write_field(field, out, at);
+            let written = script_writer::write_field(field, out, at);
             Rewritten {
                 taken,
                 count: written.count,

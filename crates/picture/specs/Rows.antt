@@ -3,7 +3,7 @@ use Prim.Native.Nat.{ℕ, _+_, _-_, _*_, _/_, _%_, _^_, min}
 use mathlib.Core.List.{List, [], _∷_}
 use lib.Dec.{ltb}
 use lib.ListN.{length, take, drop}
-use Rattle.lists.specs.Pick.{pick}
+use Rattle.sequences.specs.Pick.{pick}
 
 -- how many bins a row has: eight rows an octave, so one bin each up to bin 15, then twice as many with each octave
 unfoldable pub widthOf : ℕ → ℕ

@@ -1,13 +1,13 @@
 // Reads a mask file on standard input and prints a line of numbers for each record: its sample, its
 // bin count, and the mean entry of each row that the record has in a picture. The last line says how
 // many records there were, or which one was refused; nothing is read behind that one.
-mod lines;
-mod rows;
-
 ghost use mathlib.Core.Path.{_≡_};
 ghost use Prim.Native.Nat.{_≤_, _<_};
 ghost use lib.ListN.{length};
 use mask_records::Read;
+
+mod lines;
+mod rows;
 
 // The bytes of the next record, as far as they are there: its head, and the entries that it tells of.
 // Of a head that tells of too many there is the head alone, and the reader refuses that.
@@ -19,7 +19,7 @@ fn next(bytes: &mut [u8]) -> usize
     if head < 16 {
         return head;
     }
-    let count = fields::be16_at(bytes, 11) as usize;
+    let count = script::be16_at(bytes, 11) as usize;
     if count > 8193 {
         return 16;
     }

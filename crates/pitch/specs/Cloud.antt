@@ -2,13 +2,13 @@
 -- change no answer (`RegisterChoice.antt` of `promises`). Definitions only.
 use Prim.Native.Nat.{ℕ}
 use lib.Ieee.{Float, le}
-use Rattle.lists.specs.Pick.{pick}
+use Rattle.sequences.specs.Pick.{pick}
 use Rattle.floats.specs.Names.{add32, sub32, mul32, div32, half, one, two}
 use Rattle.draws.specs.Draws.{randomOf}
 use Rattle.elementary.specs.Log2.{log2Of}
 use Rattle.powers.specs.Power.{exp2}
 use Rattle.elementary.specs.Sqrt.{sqrtOf}
-use Rattle.registers.specs.Register.{minHz, fullHz, lowProbability}
+use Rattle.pitch.specs.Register.{minHz, fullHz, lowProbability}
 
 -- PARTICLE_FULL_OPENING_HZ.log2() - lower
 unfoldable pub rampOf : Float → Float

@@ -1,1 +1,4 @@
 pub mod Cloud
+pub mod Partials
+pub mod Octave
+pub mod Register

@@ -2,6 +2,7 @@
 // flat above, inverted directly.
 ghost use mathlib.Core.Path.{_≡_};
 ghost use Rattle.pitch.specs.Cloud.{rampOf, slopeOf, massOf, inRamp, offsetOf, frequencyOf};
+use crate::registers;
 
 // log2 of 440: what `elementary::log2` gives.
 const LOG_OF_FULL_OPENING_HZ: f32 = 8.78136;

@@ -1,6 +1,9 @@
 // Where a new particle sounds: how often and how strongly a register is chosen, the free Cloud's
 // frequency, Sprinkle's octave, and the harmonics of one particle.
 mod cloud;
+mod harmonics;
+mod octaves;
+mod registers;
 
 pub use cloud::free_cloud_frequency;
 pub use harmonics::select_partials;

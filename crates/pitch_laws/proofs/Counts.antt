@@ -11,7 +11,7 @@ use lib.Dec.{T, ltb, lit≤}
 use lib.Ieee.{Float, nan, inf, fin, binary32, up, down, isNan, le}
 use lib.Ieee.Fits.{down-pos, sub-fits}
 use lib.Ieee.Scale.{finite}
-use Rattle.lists.specs.Pick.{by-case}
+use Rattle.sequences.specs.Pick.{by-case}
 use Rattle.floats.specs.Names.{sub32}
 use Rattle.floats.specs.Whole.{floor, ceil}
 use Rattle.floats.proofs.Floor.{floor-fits}

@@ -10,7 +10,7 @@ use lib.Ieee.Bits.{is-true, ofBits-fits}
 use lib.Ieee.Fits.{add-fits, sub-fits}
 use lib.Ieee.Scale.{finite}
 use denote.Floats.{passes}
-use Rattle.lists.specs.Pick.{pick, by-case}
+use Rattle.sequences.specs.Pick.{pick, by-case}
 use Rattle.floats.specs.Names.{f32, add32, sub32, mul32, nil, two}
 use Rattle.floats_laws.proofs.Bounds.{add-mag, sub-mag, mul-mag, div-mag}
 use Rattle.floats_laws.proofs.Mag.{Mag, Upto, Least, le-upto, least-up, mag-le, mag-finite, mag-more, upto-mag}
@@ -28,7 +28,7 @@ use Rattle.elementary_laws.proofs.PowerRises.{exp2-like}
 use Rattle.elementary_laws.proofs.PowerValues.{exp2-exact, power-fits}
 use Rattle.elementary_laws.proofs.RootRises.{lowest, lowest-root, highest-root, sqrt-fits, sqrt-window}
 use Rattle.settings.specs.Settings.{lawfulRate}
-use Rattle.registers.specs.Register.{lowProbability}
+use Rattle.pitch.specs.Register.{lowProbability}
 use Rattle.pitch.specs.Cloud.{inRamp, offsetOf, frequencyOf}
 use Rattle.pitch_laws.proofs.Ramp.{low, ramp, slope, mass, low-is, ramp-is, slope-is, mass-is, least-log, most-log, least-rest, square-is, double-is, least-divisor, looked}
 use Rattle.pitch_laws.proofs.Tops.{leastHz, mostHz, highestOf, rate-top}

@@ -14,16 +14,16 @@ use lib.IntN.{pos}
 use lib.Ieee.{Float, nan, binary32, isNan, lt, le, fits, ofInt, round, size, span, climb, units, odd, ofBits, ofFields}
 use lib.Ieee.Bits.{is-true, ofBits-fits}
 use lib.Ieee.Fits.{ofInt-fits}
-use Rattle.lists.specs.Pick.{pick, by-case}
-use Rattle.lists.specs.Table.{table, table-at, length-table}
+use Rattle.sequences.specs.Pick.{pick, by-case}
+use Rattle.sequences.specs.Table.{table, table-at, length-table}
 use Rattle.floats_laws.proofs.Casting.{whole-rises}
 use Rattle.floats_laws.proofs.Keys.{key, le-key, lt-key}
 use Rattle.floats_laws.proofs.Rules.{le-right, le-trans}
 use Rattle.draws.specs.Draws.{randomOf}
 use Rattle.floats.specs.Names.{nil, one, asFloat}
-use Rattle.harmonics.specs.Partials.{countOf, keptOf, allowedOf, drawnOf, partialsOf}
+use Rattle.pitch.specs.Partials.{countOf, keptOf, allowedOf, drawnOf, partialsOf}
 use Rattle.pitch_laws.proofs.Picks.{Drawable, Chosen, chosen-drawn, nil-gone}
-use Rattle.harmonics.proofs.Turns.{count-most, length-drawn}
+use Rattle.pitch.proofs.Turns.{count-most, length-drawn}
 
 -- the harmonic p may be picked
 pub record Lawful (limit : ℕ) (ratio : Float) (weights : List Float) (p : ℕ) : Type 0 where

@@ -13,7 +13,7 @@ use lib.Ieee.Bits.{ofBits-fits}
 use lib.Ieee.Fits.{add-fits}
 use lib.Ieee.Exact.{HasValue}
 use lib.Ieee.Scale.{finite}
-use Rattle.lists.specs.Pick.{by-case, either}
+use Rattle.sequences.specs.Pick.{by-case, either}
 use Rattle.floats.specs.Names.{add32, sub32, nil, one, asFloat}
 use Rattle.floats.specs.Whole.{floor}
 use Rattle.floats_laws.proofs.Ends.{mag-between}
@@ -21,16 +21,16 @@ use Rattle.floats_laws.proofs.Mag.{Mag}
 use Rattle.floats_laws.proofs.Rising.{nought}
 use Rattle.floats_laws.proofs.Rules.{le-trans as float-trans}
 use Rattle.elementary.specs.Rung.{rungOf, digitsOf}
-use Rattle.parabolas.specs.Parabolas.{tops, topOf, slopes, slopeOf, bends, bendOf}
+use Rattle.elementary.specs.Parabolas.{tops, topOf, slopes, slopeOf, bends, bendOf}
 use Rattle.elementary.specs.Log2.{fallOf, cellOf, fractionOf, joinedOf, logOf, log2Of}
 use Rattle.floats_laws.proofs.Spans.{lt-le}
 use Rattle.elementary_laws.proofs.LogExact.{log2-fits}
 use Rattle.elementary_laws.proofs.LogRises.{least, most, log2-rises, log2-within}
-use Rattle.registers.specs.Register.{minHz}
-use Rattle.octaves.specs.Octave.{upwardOf, lastOf, chosenFrom, chosenOf, firstOf, octavesOf, drawnOf, octaveOf, upperOf, registerOf}
+use Rattle.pitch.specs.Register.{minHz}
+use Rattle.pitch.specs.Octave.{upwardOf, lastOf, chosenFrom, chosenOf, firstOf, octavesOf, drawnOf, octaveOf, upperOf, registerOf}
 use Rattle.settings.specs.declared.Direction.{Direction}
 use Rattle.pitch_laws.proofs.Harmonics.{one-is}
-use Rattle.registers.proofs.Logs.{log-of-min, log-of-top}
+use Rattle.pitch.proofs.Logs.{log-of-min, log-of-top}
 use Rattle.floats_laws.proofs.Wholes.{At, at-sum, at-difference, at-whole, at-word}
 use Rattle.pitch_laws.proofs.Counts.{logOf20, logOf4000, logOf4186, Range, octaves-in-range}
 use Rattle.pitch_laws.proofs.Tops.{leastHz, topHz, upper-fits, upper-from, upper-to}

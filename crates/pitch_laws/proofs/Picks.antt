@@ -11,10 +11,10 @@ use lib.ListN.{length, getD, set, length-set}
 use lib.Seq.{getD-set-same, getD-set-other}
 use lib.Ieee.{Float, nan, lt, le, eq, ofBits, ofFields, odd}
 use Rattle.floats.specs.Names.{sub32, mul32, nil}
-use Rattle.lists.specs.Pick.{pick, by-case}
+use Rattle.sequences.specs.Pick.{pick, by-case}
 use Rattle.draws.specs.Draws.{randomOf}
-use Rattle.harmonics.specs.Partials.{sumOf, harmonicFrom, harmonicOf, withoutOf, drawnFrom}
-use Rattle.harmonics.proofs.Turns.{length-without}
+use Rattle.pitch.specs.Partials.{sumOf, harmonicFrom, harmonicOf, withoutOf, drawnFrom}
+use Rattle.pitch.proofs.Turns.{length-without}
 
 -- the harmonic p can be drawn: its weight is not zero or below
 pub record Drawable (ws : List Float) (p : ℕ) : Type 0 where

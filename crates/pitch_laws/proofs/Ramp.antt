@@ -7,13 +7,13 @@ use lib.Ieee.Scale.{finite}
 use Rattle.floats.specs.Names.{f32, add32, sub32, mul32, nil, half, two}
 use Rattle.floats_laws.proofs.Rising.{nought}
 use Rattle.elementary.specs.Rung.{rungOf, digitsOf}
-use Rattle.parabolas.specs.Parabolas.{tops, topOf, slopes, slopeOf, bends, bendOf}
+use Rattle.elementary.specs.Parabolas.{tops, topOf, slopes, slopeOf, bends, bendOf}
 use Rattle.elementary.specs.Log2.{fallOf, cellOf, fractionOf, joinedOf, logOf, log2Of}
 use Rattle.elementary_laws.proofs.RootRises.{lowest, lowest-root}
-use Rattle.registers.specs.Register.{minHz, lowProbability}
+use Rattle.pitch.specs.Register.{minHz, lowProbability}
 use Rattle.pitch.specs.Cloud.{rampOf, massOf}
 use Rattle.pitch.specs.Cloud as cloud
-use Rattle.registers.proofs.Logs.{log-of-min, log-of-full}
+use Rattle.pitch.proofs.Logs.{log-of-min, log-of-full}
 use Rattle.pitch_laws.proofs.Tops.{leastHz, mostHz}
 
 -- log2 of 20; the ramp, which is log2 of 22, its slope and its mass

@@ -8,14 +8,14 @@ use lib.Ieee.Fits.{mul-fits, div-fits}
 use lib.Ieee.Scale.{finite}
 use lib.Count.{leadingZeros, trailingZeros}
 use Rattle.floats.specs.Names.{f32, add32, sub32, mul32, div32, nil, one}
-use Rattle.choices.specs.Choose.{clamp}
+use Rattle.floats.specs.Choose.{clamp}
 use Rattle.floats_laws.proofs.Choosing.{clamp-fits, clamp-least, clamp-most}
 use Rattle.floats_laws.proofs.Numbers.{mul-number, div-number}
 use Rattle.floats_laws.proofs.Rising.{nought, add-rises-right, mul-rises}
 use Rattle.floats_laws.proofs.Rules.{add-number, between-finite, finite-number, le-trans}
-use Rattle.registers.proofs.Logs.{log-of-min, log-of-range}
+use Rattle.pitch.proofs.Logs.{log-of-min, log-of-range}
 use Rattle.floats_laws.proofs.Products.{product-from-zero, mul-rises-right}
-use Rattle.registers.specs.Register.{lowOpening, lowProbability, heightOf, strengthOf, probabilityOf}
+use Rattle.pitch.specs.Register.{lowOpening, lowProbability, heightOf, strengthOf, probabilityOf}
 
 -- what is between two floats, ends included
 abbrev pub Between : Float → Float → Float → Type 0

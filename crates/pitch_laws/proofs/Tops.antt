@@ -8,14 +8,14 @@ use lib.Ieee.Bits.{ofBits-fits}
 use lib.Ieee.Fits.{and-l, and-r, mul-fits}
 use lib.Ieee.Scale.{finite}
 use Rattle.floats.specs.Names.{f32, mul32, half}
-use Rattle.choices.specs.Choose.{min}
+use Rattle.floats.specs.Choose.{min}
 use Rattle.floats_laws.proofs.Choosing.{min-fits, min-left, min-right}
 use Rattle.floats_laws.proofs.Ends.{of-min}
 use Rattle.floats_laws.proofs.Numbers.{mul-number}
 use Rattle.floats_laws.proofs.Rising.{nought, mul-rises}
 use Rattle.floats_laws.proofs.Rules.{le-right, le-trans}
 use Rattle.settings.specs.Settings.{lawfulRate}
-use Rattle.octaves.specs.Octave.{upperOf}
+use Rattle.pitch.specs.Octave.{upperOf}
 
 -- 4,000 and 20,000 Hz
 abbrev pub leastHz : Float

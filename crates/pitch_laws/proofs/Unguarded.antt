@@ -13,12 +13,12 @@ use lib.Ieee.Bits.{ofBits-fits}
 use lib.Ieee.Fits.{mul-fits, sub-fits, neg-fits}
 use lib.Ieee.Positive.{positive, positive-finite}
 use lib.Ieee.Scale.{finite}
-use Rattle.lists.specs.Pick.{picked, by-case}
-use Rattle.casts.proofs.Facts.{ne-self}
+use Rattle.sequences.specs.Pick.{picked, by-case}
+use Rattle.floats.proofs.Facts.{ne-self}
 use Rattle.floats.specs.Names.{f32, add32, sub32, mul32, nil, half, one, asFloat}
 use Rattle.floats.specs.Whole.{floor, ceil}
 use Rattle.floats.proofs.Floor.{floor-fits, ceil-is}
-use Rattle.choices.specs.Choose.{max, min}
+use Rattle.floats.specs.Choose.{max, min}
 use Rattle.floats_laws.proofs.Ends.{not-above, max-first, min-first, min-second}
 use Rattle.floats_laws.proofs.Mag.{mag-finite}
 use Rattle.floats_laws.proofs.Numbers.{positive-lt, mul-number}
@@ -29,9 +29,9 @@ use Rattle.floats_laws.proofs.Wholes.{At, at-not-below}
 use Rattle.elementary.specs.Log2.{log2Of}
 use Rattle.elementary.proofs.Tested.{past-tests}
 use Rattle.settings.specs.declared.Direction.{Direction}
-use Rattle.registers.specs.Register.{minHz}
-use Rattle.registers.proofs.Logs.{log-of-full}
-use Rattle.octaves.specs.Octave.{upwardOf, lastOf, spanOf, firstOf, octavesOf, drawnOf, octaveOf, upperOf, registerOf}
+use Rattle.pitch.specs.Register.{minHz}
+use Rattle.pitch.proofs.Logs.{log-of-full}
+use Rattle.pitch.specs.Octave.{upwardOf, lastOf, spanOf, firstOf, octavesOf, drawnOf, octaveOf, upperOf, registerOf}
 use Rattle.pitch.specs.Cloud.{rampOf, frequencyOf}
 use Rattle.pitch_laws.specs.Guarded as guarded
 use Rattle.pitch_laws.proofs.Counts.{Range}

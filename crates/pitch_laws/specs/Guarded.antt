@@ -3,17 +3,17 @@ use Prim.Native.Nat.{ℕ}
 use mathlib.Core.Bool.{Bool}
 use lib.Dec.{ltb}
 use lib.Ieee.{Float, binary32, toUnsigned}
-use Rattle.lists.specs.Pick.{pick}
+use Rattle.sequences.specs.Pick.{pick}
 use Rattle.floats.specs.Names.{f32, add32, sub32, mul32, nil, half, one, asFloat}
-use Rattle.choices.specs.Choose.{max, min}
+use Rattle.floats.specs.Choose.{max, min}
 use Rattle.floats.specs.Whole.{floor, ceil}
 use Rattle.draws.specs.Draws.{randomOf}
 use Rattle.elementary.specs.Log2.{log2Of}
 use Rattle.powers.specs.Power.{exp2}
 use Rattle.settings.specs.declared.Direction.{Direction}
-use Rattle.registers.specs.Register.{minHz, fullHz, strengthOf}
-use Rattle.octaves.specs.declared.Register.{Register}
-use Rattle.octaves.specs.Octave.{upwardOf, lastOf, totalOf, chosenOf}
+use Rattle.pitch.specs.Register.{minHz, fullHz, strengthOf}
+use Rattle.pitch.specs.declared.octaves.Register.{Register}
+use Rattle.pitch.specs.Octave.{upwardOf, lastOf, totalOf, chosenOf}
 use Rattle.pitch.specs.Cloud.{slopeOf, massOf, offsetOf}
 
 -- ---- sprinkle_register

@@ -4,6 +4,10 @@ ghost use mathlib.Core.Path.{_≡_};
 ghost use mathlib.Core.List.{map};
 ghost use Rattle.pool.specs.Pool.{freeParticle, firstOf, retiredOf, retireOne, retireBoundOne, retuneOne};
 
+mod vacancies;
+
+pub use vacancies::free_place;
+
 // The slot of a particle that follows none.
 pub const NO_SOURCE: usize = 256;
 

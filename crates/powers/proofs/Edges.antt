@@ -6,12 +6,12 @@ use lib.Dec.{T}
 use lib.Ieee.{Float, inf, fin, lt, le, eq, ne, isNan}
 use lib.Ieee.Compare.{differs-from-itself}
 use lib.Ieee.Bits.{is-false}
-use Rattle.casts.proofs.Facts.{ne-self}
+use Rattle.floats.proofs.Facts.{ne-self}
 use Rattle.floats_laws.proofs.Numbers.{lt-left-number}
 use Rattle.floats_laws.proofs.Rules.{le-left, le-right}
 use Rattle.floats_laws.proofs.Rising.{highest}
 use Rattle.floats_laws.proofs.Through.{le-lt, lt-le}
-use Rattle.casts.proofs.Sat.{no}
+use Rattle.floats.proofs.Sat.{no}
 use Rattle.powers.specs.Placed.{edged}
 use Rattle.powers.proofs.PowerLike.{nought}
 

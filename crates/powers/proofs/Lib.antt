@@ -3,3 +3,4 @@ pub mod Edges
 pub mod PlacedAt
 pub mod PlacedRises
 pub mod PowerTable
+pub mod Exp64Rises

@@ -9,7 +9,7 @@ use lib.Dec.{T, ltb, leb, leb→le, ltb→lt}
 use lib.Pow.{pow-pos}
 use lib.Ieee.Fits.{and-l, and-r}
 use Rattle.floats_laws.proofs.Naturals.{sum-rises, div-rises}
-use Rattle.lists.specs.All.{all, all-at}
+use Rattle.sequences.specs.All.{all, all-at}
 use Rattle.powers.specs.PowerCells.{starts, slopes, bends, startOf, slopeOf, bendOf}
 use Rattle.powers.specs.Power.{curve, inCell, mantissa}
 

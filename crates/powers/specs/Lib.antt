@@ -1,3 +1,4 @@
 pub mod Placed
 pub mod PowerCells
 pub mod Power
+pub mod Exp64

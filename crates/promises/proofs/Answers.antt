@@ -5,7 +5,7 @@ use mathlib.Core.Bool.{Bool, true, false, not, true≢false}
 use mathlib.Core.List.{[], _∷_}
 use lib.Dec.{ltb, leb}
 use lib.Ieee.{Float}
-use Rattle.lists.specs.Pick.{pick, either}
+use Rattle.sequences.specs.Pick.{pick, either}
 use Rattle.refusals.specs.declared.Answer.{Answer}
 use Rattle.refusals.specs.declared.Answer.the-variants.{Taken, Refused}
 use Rattle.refusals.specs.declared.Refusal.{Refusal}
@@ -17,23 +17,23 @@ use Rattle.sources.specs.declared.Source.{Source}
 use Rattle.state.specs.declared.Done.{Done}
 use Rattle.state.specs.declared.Engine.{Engine}
 use Rattle.state.specs.State.{taken, refused}
-use Rattle.basics.specs.New.{newEngineOf}
+use Rattle.engine.specs.New.{newEngineOf}
 use Rattle.engine.specs.Advance.{advancedOf}
-use Rattle.source_calls.specs.Slots.{setSourceOf, retireSourceOf, releaseSourceOf}
-use Rattle.changes.specs.Changes.{answeredBy, configuredOf}
-use Rattle.triggers.specs.declared.Triggered.{Triggered}
-use Rattle.triggers.specs.declared.Outcome.{Outcome}
-use Rattle.triggers.specs.declared.Outcome.the-variants as O
-use Rattle.triggers.specs.Triggers.{outcomeNumber, told, outcomeOf, reservedOf, triggeredBy, triggeredOf}
+use Rattle.engine.specs.Slots.{setSourceOf, retireSourceOf, releaseSourceOf}
+use Rattle.engine.specs.Changes.{answeredBy, configuredOf}
+use Rattle.engine.specs.declared.triggers.Triggered.{Triggered}
+use Rattle.engine.specs.declared.triggers.Outcome.{Outcome}
+use Rattle.engine.specs.declared.triggers.Outcome.the-variants as O
+use Rattle.engine.specs.Triggers.{outcomeNumber, told, outcomeOf, reservedOf, triggeredBy, triggeredOf}
 use Rattle.windows.specs.Opening.{emptyFrame}
 use Rattle.frame.specs.declared.Framed.{Framed}
 use Rattle.frame.specs.Frame.{accepted}
 use Rattle.frame.specs.Call.{takenOf, refusedOf, framedOf}
-use Rattle.fields.specs.declared.Field.{Field}
-use Rattle.fields.specs.declared.Field.the-variants as F
-use Rattle.steps.specs.declared.Run.{Run}
-use Rattle.steps.specs.Steps as steps
-use Rattle.steps.specs.Steps.{sourceOf, stepOf}
+use Rattle.script.specs.declared.fields.Field.{Field}
+use Rattle.script.specs.declared.fields.Field.the-variants as F
+use Rattle.script_steps.specs.declared.Run.{Run}
+use Rattle.script_steps.specs.Steps as steps
+use Rattle.script_steps.specs.Steps.{sourceOf, stepOf}
 use Rattle.promises.specs.Tests.{firstOf, badRate, badSlot, pastLimit, badSeconds, testsOf, replyNumber, Kept}
 
 -- ---- calls with one refusal

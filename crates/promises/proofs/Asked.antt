@@ -1,11 +1,11 @@
 -- The laws that the scope asks for: each is cited from where it is proved.
 use lib.Ieee.{ofBits, ofFields}
 use Rattle.powers.proofs.PowerLike.{in-unit}
-use Rattle.power64.proofs.Exp64Rises.{exp64-like}
+use Rattle.powers.proofs.Exp64Rises.{exp64-like}
 use Rattle.elementary_laws.proofs.LogRises.{log2-rises}
 use Rattle.elementary_laws.proofs.PowerRises.{exp-like}
 use Rattle.mask_laws.proofs.FullScan.{full-scan}
-use Rattle.runs.proofs.Joins.{advance-joins}
+use Rattle.engine_laws.proofs.Joins.{advance-joins}
 use Rattle.promises.specs.Asked.{Asked}
 
 pub asked : Asked

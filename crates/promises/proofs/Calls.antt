@@ -4,13 +4,13 @@ use mathlib.Core.Path.{_≡_, refl, sym, ap, _∙_, subst}
 use mathlib.Core.Logic.{_↔_}
 use mathlib.Core.Bool.{false, true≢false}
 use mathlib.Core.List.{List, [], _∷_}
-use Rattle.lists.specs.Pick.{picked}
+use Rattle.sequences.specs.Pick.{picked}
 use Rattle.pool.specs.declared.Particle.{Particle}
 use Rattle.pool.specs.Pool.{freeParticle}
 use Rattle.state.specs.declared.Engine.{Engine}
 use Rattle.frame.specs.Frame.{accepted}
-use Rattle.runs.specs.Acts.{frame, perform, Call, actsOf, applied}
-use Rattle.runs.proofs.Performed.{calls-are-acts}
+use Rattle.engine_laws.specs.Acts.{frame, perform, Call, actsOf, applied}
+use Rattle.engine_laws.proofs.Performed.{calls-are-acts}
 use Rattle.promises.specs.Life.{place, Held, Life, lifeOf, Fate, living, freed, story}
 use Rattle.promises.specs.Runs.{run}
 use Rattle.promises.specs.Demand3.{DueFrame, Fixed, NoneDue}

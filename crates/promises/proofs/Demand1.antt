@@ -7,26 +7,26 @@ use mathlib.Core.List.{List, [], _∷_, _++_}
 use lib.Dec.{eqb, ltb, leb}
 use lib.ListN.{length, getD, drop}
 use lib.Ieee.{Float, isNan}
-use Rattle.lists.specs.All.{all}
-use Rattle.lists.specs.Pick.{pick, picked, passed, either, by-case}
+use Rattle.sequences.specs.All.{all}
+use Rattle.sequences.specs.Pick.{pick, picked, passed, either, by-case}
 use Rattle.refusals.specs.declared.Answer.{Answer}
 use Rattle.refusals.specs.declared.Answer.the-variants.{Taken, Refused}
 use Rattle.refusals.specs.declared.Refusal.{Refusal}
 use Rattle.refusals.specs.declared.Refusal.the-variants.{Rate, Slot, Size, Elapsed, Lengths, Logs, Seconds, Tag, Cut, Value, Place, Script, Room, Attenuation, Record}
 use Rattle.refusals.specs.Numbers.{numberOf, answerOf}
 use Rattle.settings.specs.Settings.{checkedOf, lawfulRate}
-use Rattle.basics.specs.New.{newEngineOf}
+use Rattle.engine.specs.New.{newEngineOf}
 use Rattle.engine.specs.Advance.{advancedOf}
-use Rattle.source_calls.specs.Slots.{setSourceOf, retireSourceOf, releaseSourceOf}
-use Rattle.changes.specs.Changes.{configuredOf}
-use Rattle.triggers.specs.Triggers.{reservedOf, triggeredOf}
+use Rattle.engine.specs.Slots.{setSourceOf, retireSourceOf, releaseSourceOf}
+use Rattle.engine.specs.Changes.{configuredOf}
+use Rattle.engine.specs.Triggers.{reservedOf, triggeredOf}
 use Rattle.windows.specs.declared.Frame.{Frame}
 use Rattle.frame.specs.Frame.{accepted}
 use Rattle.frame.specs.Call.{takenOf, framedOf}
-use Rattle.bin_tables.specs.Bins as bins
-use Rattle.bin_tables.specs.Logs.{lawfulLogs}
-use Rattle.mask.specs.Gains.{gainsOf}
-use Rattle.decibels.specs.Entries.{isEntry}
+use Rattle.mask_gains.specs.Bins as bins
+use Rattle.mask_gains.specs.Logs.{lawfulLogs}
+use Rattle.mask_gains.specs.Gains.{gainsOf}
+use Rattle.mask_records.specs.Decibels.{isEntry}
 use Rattle.mask_records.specs.declared.Written.{Written}
 use Rattle.mask_records.specs.declared.Written.the-variants as W
 use Rattle.mask_records.specs.declared.Read as reader
@@ -38,15 +38,15 @@ use Rattle.mask_files.specs.declared.Filed.{Filed}
 use Rattle.mask_files.specs.declared.Filed.the-variants as Files
 use Rattle.mask_files.specs.Records.{filedOf}
 use Rattle.mask_files.specs.Masks.{logsFor, placedBy, masksOf}
-use Rattle.fields.specs.declared.Field.{Field}
+use Rattle.script.specs.declared.fields.Field.{Field}
 use Rattle.script.specs.declared.Read.the-variants as R
-use Rattle.fields.specs.Bytes.{be16}
+use Rattle.script.specs.Bytes.{be16}
 use Rattle.text.specs.Put.{splice}
-use Rattle.turns.specs.Turns.{turnsOf}
-use Rattle.fields.specs.Table.{kindOf, lengthOf, lawful}
+use Rattle.listing.specs.Turns.{turnsOf}
+use Rattle.script.specs.Table.{kindOf, lengthOf, lawful}
 use Rattle.script.specs.Field.{misplaced, unknown, bodyOf, readOf}
-use Rattle.ending.specs.declared.Ended.{Ended}
-use Rattle.ending.specs.Ended.{ranOf}
+use Rattle.listing.specs.declared.ending.Ended.{Ended}
+use Rattle.listing.specs.Ended.{ranOf}
 use Rattle.entry.specs.Entry.{entryAnswer, ifTaken, entryBytes}
 use Rattle.promises.proofs.Answers.{done-leaves, new-leaves, checked, fired, fired-leaves, framed-leaves, new-answers, configure-answers, set-source-answers, retire-source-answers, release-source-answers, advance-answers, trigger-answers, frame-answers, step-answers}
 use Rattle.promises.proofs.Triggers as fires

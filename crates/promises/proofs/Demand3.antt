@@ -8,21 +8,21 @@ use borrow.Author.Tests.{ltb-true, ltb-false}
 use lib.Dec.{ltb}
 use lib.ListN.{length, getD, replicate, List·getD-eq-default}
 use lib.Ieee.{ofBits}
-use Rattle.lists.specs.Pick.{either, by-case}
+use Rattle.sequences.specs.Pick.{either, by-case}
 use Rattle.pool.specs.Pool.{freeParticle}
 use Rattle.state.specs.declared.Done.{Done}
 use Rattle.state.specs.declared.Engine.{Engine}
 use Rattle.state.specs.declared.Prepared.{Prepared}
 use Rattle.state.specs.Make.{noParticles, newOn}
-use Rattle.basics.specs.New.{newEngineOf, resetOf}
-use Rattle.places.specs.Freed.{elapsedOf}
-use Rattle.runs.specs.Acts.{Act, perform, Call, actsOf, applied}
-use Rattle.lists.specs.Every.{every-at}
-use Rattle.runs.proofs.Sound as sound
-use Rattle.runs.proofs.Sound.{Sound, Fit}
-use Rattle.runs.proofs.Stays.{sound-new, sound-reset}
-use Rattle.runs.proofs.Performed.{perform-append, calls-are-acts}
-use Rattle.runs.proofs.Moments.{AllMeant, sound-performed, meant-append, meant-before, calls-meant}
+use Rattle.engine.specs.New.{newEngineOf, resetOf}
+use Rattle.frame.specs.Freed.{elapsedOf}
+use Rattle.engine_laws.specs.Acts.{Act, perform, Call, actsOf, applied}
+use Rattle.sequences.specs.Every.{every-at}
+use Rattle.engine_laws.proofs.Sound as sound
+use Rattle.engine_laws.proofs.Sound.{Sound, Fit}
+use Rattle.engine_laws.proofs.Stays.{sound-new, sound-reset}
+use Rattle.engine_laws.proofs.Performed.{perform-append, calls-are-acts}
+use Rattle.engine_laws.proofs.Moments.{AllMeant, sound-performed, meant-append, meant-before, calls-meant}
 use Rattle.promises.specs.Life.{place, Held}
 use Rattle.promises.specs.Runs.{run, history, AllTyped, Begins, new, reset}
 use Rattle.promises.specs.Demand3.{AtMoment, OverCalls, Demand3}

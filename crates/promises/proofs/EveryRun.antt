@@ -2,15 +2,15 @@
 use mathlib.Core.Path.{sym, subst}
 use mathlib.Core.List.{List, [], _∷_}
 use Rattle.state.specs.declared.Engine.{Engine}
-use Rattle.runs.specs.Acts.{perform, Call, actsOf, applied}
-use Rattle.runs.proofs.Sound.{Sound}
-use Rattle.runs.proofs.Performed.{calls-are-acts}
-use Rattle.runs.proofs.Moments.{AllMeant, sound-performed, meant-before, calls-meant}
-use Rattle.runs.proofs.Numbered.{numbered-performed}
-use Rattle.runs.proofs.Ranged.{Ranged, ranged-new, ranged-reset}
-use Rattle.runs.proofs.RangedMoments.{AllInside, ranged-performed, inside-append, inside-before, calls-inside}
-use Rattle.runs.proofs.Weighed.{Weighed, weighed-new, weighed-reset, weighed-applied}
-use Rattle.runs.proofs.Lawful.{lawful, own-weights}
+use Rattle.engine_laws.specs.Acts.{perform, Call, actsOf, applied}
+use Rattle.engine_laws.proofs.Sound.{Sound}
+use Rattle.engine_laws.proofs.Performed.{calls-are-acts}
+use Rattle.engine_laws.proofs.Moments.{AllMeant, sound-performed, meant-before, calls-meant}
+use Rattle.engine_laws.proofs.Numbered.{numbered-performed}
+use Rattle.engine_laws.proofs.Ranged.{Ranged, ranged-new, ranged-reset}
+use Rattle.engine_laws.proofs.RangedMoments.{AllInside, ranged-performed, inside-append, inside-before, calls-inside}
+use Rattle.engine_laws.proofs.Weighed.{Weighed, weighed-new, weighed-reset, weighed-applied}
+use Rattle.engine_laws.proofs.Lawful.{lawful, own-weights}
 use Rattle.promises.specs.Runs.{run, history, AllTyped, Begins, new, reset}
 use Rattle.promises.specs.EveryRun.{EveryRun}
 use Rattle.promises.proofs.Demand3.{run-is, history-meant, sound-run, begins-sound}

@@ -17,3 +17,4 @@ pub mod Stops
 pub mod Stories
 pub mod Triggers
 pub mod Writing
+pub mod Follow

@@ -11,21 +11,21 @@ use lib.Dec.{eqb, ltb}
 use lib.ListN.{length, getD, set, length-set, List·getD-map, List·getD-eq-default}
 use lib.Seq.{getD-set-same, getD-set-other}
 use lib.Ieee.{Float, le}
-use Rattle.lists.specs.Pick.{pick, picked, passed, by-case}
+use Rattle.sequences.specs.Pick.{pick, picked, passed, by-case}
 use Rattle.floats.specs.Names.{f64}
 use Rattle.pool.specs.declared.Particle.{Particle}
 use Rattle.pool.specs.declared.Retired.{Retired}
 use Rattle.pool.specs.declared.Retired.the-variants.{Not, At}
 use Rattle.pool.specs.Pool.{freeParticle, firstOf, retiredOf, retireOne, retireBoundOne, retunedOf, retuneOne}
-use Rattle.vacancies.specs.Vacancies.{freePlace}
-use Rattle.vacancies.proofs.Lowest.{lowest-free, held-below}
+use Rattle.pool.specs.Vacancies.{freePlace}
+use Rattle.pool.proofs.Lowest.{lowest-free, held-below}
 use Rattle.state.specs.declared.Engine.{Engine}
-use Rattle.bearing.specs.Birth.{chosenFor, voiceFor, newbornFor, isBarred, admittedOf, attemptedOf, bornOf}
-use Rattle.changes.specs.Changes.{retiredAll}
-use Rattle.places.specs.Freed.{secondsOf, retirementOf, dueOf, sweepOne}
+use Rattle.births.specs.Birth.{chosenFor, voiceFor, newbornFor, isBarred, admittedOf, attemptedOf, bornOf}
+use Rattle.engine.specs.Changes.{retiredAll}
+use Rattle.frame.specs.Freed.{secondsOf, retirementOf, dueOf, sweepOne}
 use Rattle.frame.specs.Call.{heldOf, renewedOf}
-use Rattle.runs.specs.Acts.{Act, birth, retire, retireBound, retune, frame, source, streams, next, clock, weights, settings, act}
-use Rattle.lists.specs.Every.{in-case}
+use Rattle.engine_laws.specs.Acts.{Act, birth, retire, retireBound, retune, frame, source, streams, next, clock, weights, settings, act}
+use Rattle.sequences.specs.Every.{in-case}
 use Rattle.promises.specs.Life.{place, permitted, newborn, lifeOf, Fate, living, freed, age, faded, due, first, retiredAt, told}
 use Rattle.promises.specs.Demand3.{Lowest}
 

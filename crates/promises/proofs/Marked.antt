@@ -7,22 +7,22 @@ use lib.Dec.{T, lit≤}
 use lib.ListN.{set, replicate}
 use lib.Ieee.{Float, binary32, add, sub, mul, div, sum, rem, round, size, span, climb, units, odd, lt, le, eq, isNan, ofBits, ofFields, ofInt, toBits, neg}
 use lib.Ieee.Bits.{ofBits-fits}
-use Rattle.lists.specs.Pick.{pick, picked, passed, either}
-use Rattle.lists.specs.Table.{from}
-use Rattle.lists.specs.Walk.{walk}
+use Rattle.sequences.specs.Pick.{pick, picked, passed, either}
+use Rattle.sequences.specs.Table.{from}
+use Rattle.sequences.specs.Walk.{walk}
 use Rattle.floats.specs.Names.{f32, f64, sub32, mul32, nil}
-use Rattle.choices.specs.Choose.{clamp, abs}
+use Rattle.floats.specs.Choose.{clamp, abs}
 use Rattle.floats.specs.Remainder.{remEuclid}
-use Rattle.words.specs.Word.{product}
+use Rattle.floats.specs.Word.{product}
 use Rattle.draws.specs.Draws.{mixOf, keyOf, randomOf}
 use Rattle.elementary.specs.Rung.{rungOf, digitsOf}
 use Rattle.elementary.specs.Sqrt.{scaledOf, rootBits, sqrtOf}
 use Rattle.elementary.proofs.Squares.{root-is, perfect}
-use Rattle.harmonics.specs.Partials.{countOf, keptOf, allowedOf, sumOf, harmonicFrom, harmonicOf, withoutOf, drawnFrom, drawnOf, partialsOf}
+use Rattle.pitch.specs.Partials.{countOf, keptOf, allowedOf, sumOf, harmonicFrom, harmonicOf, withoutOf, drawnFrom, drawnOf, partialsOf}
 use Rattle.pitch_laws.proofs.Harmonics.{no-room}
-use Rattle.mending.specs.Mending.{finiteOr, phaseOf}
+use Rattle.settings.specs.Mending.{finiteOr, phaseOf}
 use Rattle.state.specs.declared.Engine.{Engine}
-use Rattle.changes.specs.Changes.{retiredAll, aligned, soughtPhase, soughtOf}
+use Rattle.engine.specs.Changes.{retiredAll, aligned, soughtPhase, soughtOf}
 use Rattle.windows.specs.Opening.{cubic, taperOf, insideOf, opennessOf}
 use Rattle.promises.specs.Marked.{whole, float, picks, window, marked, Same}
 

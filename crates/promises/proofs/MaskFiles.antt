@@ -1,12 +1,12 @@
 -- Order 5's promise holds.
 use Rattle.promises.specs.MaskFiles.{MaskFiles}
-use Rattle.decibels.proofs.Nearest.{tenths-is, tenth-only, tenths-most}
-use Rattle.decibels.proofs.Ruled.{entries-long, entry-rule, entry-only, first-entry, last-entry, never-rises}
-use Rattle.decibels.specs.Entries.{entryOf}
-use Rattle.decibels.specs.Tenths.{held, tenthsOf}
-use Rattle.mask_records_laws.proofs.Files.{file-back}
-use Rattle.mask_records_laws.proofs.Frames.{entries-count, entry-own, entries-known, ones-everywhere, written-back}
-use Rattle.mask_records_laws.proofs.WriteBack.{written-again}
+use Rattle.mask_records.proofs.Nearest.{tenths-is, tenth-only, tenths-most}
+use Rattle.mask_records.proofs.Ruled.{entries-long, entry-rule, entry-only, first-entry, last-entry, never-rises}
+use Rattle.mask_records.specs.Decibels.{entryOf}
+use Rattle.mask_records.specs.Tenths.{held, tenthsOf}
+use Rattle.mask_laws.proofs.Files.{file-back}
+use Rattle.mask_laws.proofs.Frames.{entries-count, entry-own, entries-known, ones-everywhere, written-back}
+use Rattle.mask_laws.proofs.WriteBack.{written-again}
 use Rattle.promises.proofs.ScriptFiles.{script-file}
 
 pub mask-files : MaskFiles

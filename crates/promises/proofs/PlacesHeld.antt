@@ -5,39 +5,39 @@ use mathlib.Core.Bool.{Bool, true, false, cond}
 use mathlib.Core.List.{List, [], _∷_, map}
 use lib.Dec.{eqb}
 use lib.ListN.{length, drop}
-use Rattle.lists.specs.Every.{Every, every-imp}
-use Rattle.vacancies.specs.Vacancies.{activeCount}
+use Rattle.sequences.specs.Every.{Every, every-imp}
+use Rattle.pool.specs.Vacancies.{activeCount}
 use Rattle.refusals.specs.declared.Answer.{Answer}
 use Rattle.refusals.specs.declared.Answer.the-variants as A
 use Rattle.state.specs.declared.Done.{Done}
 use Rattle.state.specs.declared.Engine.{Engine}
-use Rattle.triggers.specs.declared.Outcome.{Outcome}
-use Rattle.triggers.specs.declared.Outcome.the-variants as O
-use Rattle.triggers.specs.declared.Triggered.{Triggered}
-use Rattle.triggers.specs.Triggers.{triggeredOf, triggeredBy}
-use Rattle.basics.specs.New.{newEngineOf}
-use Rattle.changes.specs.Changes.{configuredOf}
-use Rattle.source_calls.specs.Slots.{setSourceOf, retireSourceOf, releaseSourceOf}
+use Rattle.engine.specs.declared.triggers.Outcome.{Outcome}
+use Rattle.engine.specs.declared.triggers.Outcome.the-variants as O
+use Rattle.engine.specs.declared.triggers.Triggered.{Triggered}
+use Rattle.engine.specs.Triggers.{triggeredOf, triggeredBy}
+use Rattle.engine.specs.New.{newEngineOf}
+use Rattle.engine.specs.Changes.{configuredOf}
+use Rattle.engine.specs.Slots.{setSourceOf, retireSourceOf, releaseSourceOf}
 use Rattle.engine.specs.Advance.{advancedOf}
 use Rattle.frame.specs.declared.Framed.{Framed}
 use Rattle.frame.specs.Call.{framedOf as takeFrameOf}
-use Rattle.frame_values.specs.Values.{valuesOf}
-use Rattle.fields.specs.declared.Field.{Field}
-use Rattle.fields.specs.declared.Field.the-variants as F
-use Rattle.steps.specs.declared.Run.{Run}
-use Rattle.steps.specs.declared.Reply.{Reply}
-use Rattle.steps.specs.declared.Reply.the-variants as R
-use Rattle.steps.specs.declared.Stepped.{Stepped}
-use Rattle.steps.specs.Steps.{fresh, answeredOf, doneOf, outcomeOf, firedOf, frameOf, framedOf, sourceOf, stepOf}
+use Rattle.script_steps.specs.Values.{valuesOf}
+use Rattle.script.specs.declared.fields.Field.{Field}
+use Rattle.script.specs.declared.fields.Field.the-variants as F
+use Rattle.script_steps.specs.declared.Run.{Run}
+use Rattle.script_steps.specs.declared.Reply.{Reply}
+use Rattle.script_steps.specs.declared.Reply.the-variants as R
+use Rattle.script_steps.specs.declared.Stepped.{Stepped}
+use Rattle.script_steps.specs.Steps.{fresh, answeredOf, doneOf, outcomeOf, firedOf, frameOf, framedOf, sourceOf, stepOf}
 use Rattle.script.specs.declared.Read.{Read}
 use Rattle.script.specs.declared.Read.the-variants as S
 use Rattle.script.specs.Field.{readOf}
-use Rattle.lines.specs.declared.Line.{Line}
-use Rattle.lines.specs.declared.Line.the-variants as L
-use Rattle.turns.specs.declared.Turn.{Turn}
-use Rattle.turns.specs.Turns.{refusalOf, repliedOf, afterOf, turnOf, turnsFrom, turnsOf}
-use Rattle.runs.specs.Acts.{Call, configure, noteInput, setSource, retireSource, releaseSource, trigger, reserve, reserved, seek, advance, takeFrame, applied}
-use Rattle.runs.proofs.Numbered.{Numbered, numbered-new, numbered-reset, numbered-performed, numbered-applied}
+use Rattle.listing.specs.declared.lines.Line.{Line}
+use Rattle.listing.specs.declared.lines.Line.the-variants as L
+use Rattle.listing.specs.declared.turns.Turn.{Turn}
+use Rattle.listing.specs.Turns.{refusalOf, repliedOf, afterOf, turnOf, turnsFrom, turnsOf}
+use Rattle.engine_laws.specs.Acts.{Call, configure, noteInput, setSource, retireSource, releaseSource, trigger, reserve, reserved, seek, advance, takeFrame, applied}
+use Rattle.engine_laws.proofs.Numbered.{Numbered, numbered-new, numbered-reset, numbered-performed, numbered-applied}
 use Rattle.promises.specs.Runs.{run, Begins, new, reset}
 use Rattle.promises.specs.PlacesHeld.{Counted, withActive, walkedLine, PlacesHeld}
 

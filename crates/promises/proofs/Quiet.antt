@@ -5,22 +5,22 @@ use mathlib.Core.Bool.{Bool, true, false, _&&_}
 use mathlib.Core.List.{List, [], _∷_, _++_}
 use lib.Dec.{T}
 use lib.Ieee.{Float}
-use Rattle.lists.specs.Pick.{picked, passed, either, by-case}
-use Rattle.lists.specs.Times.{iterate}
+use Rattle.sequences.specs.Pick.{picked, passed, either, by-case}
+use Rattle.sequences.specs.Times.{iterate}
 use Rattle.refusals.specs.declared.Answer.{Answer}
 use Rattle.refusals.specs.declared.Answer.the-variants.{Taken, Refused}
 use Rattle.settings.specs.declared.Config.{Config}
 use Rattle.settings.specs.declared.Shape.{Shape}
 use Rattle.settings.specs.declared.Shape.the-variants.{Sprinkle, Cloud}
 use Rattle.settings.specs.Settings.{checkedOf}
-use Rattle.mending.specs.Mending.{mendedOf}
+use Rattle.settings.specs.Mending.{mendedOf}
 use Rattle.state.specs.declared.Engine.{Engine}
 use Rattle.state.specs.State.{withConfig}
-use Rattle.delivery.specs.Sample.{laneOf, steppedOf}
-use Rattle.changes.specs.Changes.{reweighed, switched, offset}
-use Rattle.triggers.specs.Triggers.{reservedOf}
+use Rattle.engine.specs.Sample.{laneOf, steppedOf}
+use Rattle.engine.specs.Changes.{reweighed, switched, offset}
+use Rattle.engine.specs.Triggers.{reservedOf}
 use Rattle.frame.specs.Frame.{accepted}
-use Rattle.runs.specs.Acts.{Act, birth, retire, retireBound, retune, frame, source, streams, next, clock, weights, settings, act, triedActs, laneActs, shapeActs, deliverActs, sampleActs, advanceActs, restartActs, weighActs, switchActs, offsetActs, configureActs, checkedActs, triggerActs, Call, configure, noteInput, setSource, retireSource, releaseSource, trigger, reserve, reserved, seek, advance, takeFrame, actsOf}
+use Rattle.engine_laws.specs.Acts.{Act, birth, retire, retireBound, retune, frame, source, streams, next, clock, weights, settings, act, triedActs, laneActs, shapeActs, deliverActs, sampleActs, advanceActs, restartActs, weighActs, switchActs, offsetActs, configureActs, checkedActs, triggerActs, Call, configure, noteInput, setSource, retireSource, releaseSource, trigger, reserve, reserved, seek, advance, takeFrame, actsOf}
 use Rattle.promises.specs.Life.{Life, Fate, living, freed, due, told, onward, story}
 use Rattle.promises.specs.Demand3.{DueFrame}
 use Rattle.promises.proofs.Stories.{not-living, first-due}

@@ -5,24 +5,24 @@ use mathlib.Core.List.{_∷_}
 use lib.Dec.{T}
 use lib.Ieee.{Float, binary32, ofBits}
 use Rattle.floats_laws.proofs.Fitting.{own-convert}
-use Rattle.lists.specs.Pick.{pick}
+use Rattle.sequences.specs.Pick.{pick}
 use Rattle.settings.specs.declared.Shape.{Shape}
 use Rattle.settings.specs.declared.Shape.the-variants.{Sprinkle, Cloud}
 use Rattle.settings.specs.Settings.{lawfulRate}
-use Rattle.octaves.specs.Octave.{registerOf}
+use Rattle.pitch.specs.Octave.{registerOf}
 use Rattle.pitch.specs.Cloud.{frequencyOf}
 use Rattle.pitch_laws.proofs.Octaves.{octaves-few}
 use Rattle.pitch_laws.proofs.Tops.{Top, upper-past-40}
 use Rattle.pitch_laws.proofs.Unguarded.{ramp-past-epsilon, span-past-ramp, register-same, frequency-same}
-use Rattle.voices.specs.Voices.{maxHzOf, freeHzOf, freeVoiceOf}
+use Rattle.births.specs.Voices.{maxHzOf, freeHzOf, freeVoiceOf}
 use Rattle.births.specs.Births.{registerBy, newbornOf}
-use Rattle.bearing.specs.Birth.{chosenFor, voiceFor, newbornFor}
+use Rattle.births.specs.Birth.{chosenFor, voiceFor, newbornFor}
 use Rattle.frame_laws.proofs.Newborn.{top-of}
 use Rattle.state.specs.declared.Engine.{Engine}
-use Rattle.runs.specs.Acts.{birth, perform}
-use Rattle.runs.proofs.Sound.{Sound, Sounding}
-use Rattle.runs.proofs.Chosen.{birth-fit}
-use Rattle.runs.proofs.Moments.{AllMeant, sound-performed, meant-before, meant-after}
+use Rattle.engine_laws.specs.Acts.{birth, perform}
+use Rattle.engine_laws.proofs.Sound.{Sound, Sounding}
+use Rattle.engine_laws.proofs.Chosen.{birth-fit}
+use Rattle.engine_laws.proofs.Moments.{AllMeant, sound-performed, meant-before, meant-after}
 use Rattle.promises.specs.Life.{newborn}
 use Rattle.promises.specs.RegisterChoice.{Rate, Root, rateOf, RegisterChoice}
 use Rattle.promises.proofs.Demand3.{history-meant, begins-sound}

@@ -2,10 +2,10 @@
 use mathlib.Core.Path.{refl}
 use lib.Ieee.{toBits}
 use Rattle.promises.specs.RoundTrip.{RoundTrip}
-use Rattle.writer_laws.proofs.InARow.{in-a-row}
-use Rattle.writer_laws.proofs.ReadBack.{reading-back, events-back, ends-back}
-use Rattle.writer_laws.proofs.Wide.{written-alike, engine-alike}
-use Rattle.writer_laws.proofs.WrittenBack.{script-again}
+use Rattle.script_writer_laws.proofs.InARow.{in-a-row}
+use Rattle.script_writer_laws.proofs.ReadBack.{reading-back, events-back, ends-back}
+use Rattle.script_writer_laws.proofs.Wide.{written-alike, engine-alike}
+use Rattle.script_writer_laws.proofs.WrittenBack.{script-again}
 
 pub round-trip : RoundTrip
 unfolding toBits

@@ -8,23 +8,23 @@ use borrow.Author.Tests.{ltb-false}
 use lib.Dec.{ltb, leb}
 use lib.Ieee.{Float}
 use lib.ListN.{length}
-use Rattle.casts.proofs.Sat.{no}
-use Rattle.lists.specs.Every.{Every}
-use Rattle.lists.specs.Pick.{pick, went-left, went-right}
+use Rattle.floats.proofs.Sat.{no}
+use Rattle.sequences.specs.Every.{Every}
+use Rattle.sequences.specs.Pick.{pick, went-left, went-right}
 use Rattle.text.specs.Put.{splice}
 use Rattle.refusals.specs.declared.Answer.{Answer}
 use Rattle.refusals.specs.declared.Answer.the-variants as A
 use Rattle.refusals.specs.declared.Refusal.{Refusal}
 use Rattle.refusals.specs.declared.Refusal.the-variants.{Size, Script, Room}
 use Rattle.windows.specs.declared.Frame.{Frame}
-use Rattle.lines.specs.declared.Line.{Line}
-use Rattle.lines.specs.declared.Line.the-variants as L
-use Rattle.turns.specs.declared.Turn.{Turn}
-use Rattle.turns.specs.Turns.{turnsOf}
+use Rattle.listing.specs.declared.lines.Line.{Line}
+use Rattle.listing.specs.declared.lines.Line.the-variants as L
+use Rattle.listing.specs.declared.turns.Turn.{Turn}
+use Rattle.listing.specs.Turns.{turnsOf}
 use Rattle.mask_records.specs.Bytes.{fileOf}
-use Rattle.mask_records_laws.specs.Files.{Record, Whole, ReadsAs}
-use Rattle.mask_records_laws.proofs.Files.{file-back}
-use Rattle.mask_records_laws.proofs.Frames.{entries-count, entries-known}
+use Rattle.mask_laws.specs.Files.{Record, Whole, ReadsAs}
+use Rattle.mask_laws.proofs.Files.{file-back}
+use Rattle.mask_laws.proofs.Frames.{entries-count, entries-known}
 use Rattle.mask_files.specs.declared.Filed.{Filed}
 use Rattle.mask_files.specs.declared.Filed.the-variants.{Upto, Refused}
 use Rattle.mask_files.specs.Records.{filedOf, recordBy, recordsIn}

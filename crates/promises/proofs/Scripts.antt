@@ -9,41 +9,41 @@ use lib.ListN.{length, take}
 use lib.Seq.{take-append-seam}
 use lib.Ieee.{binary32, binary64}
 use lib.Ieee.Bits.{ofBits-fits}
-use Rattle.lists.specs.Every.{Every}
-use Rattle.lists.specs.Pick.{by-case}
+use Rattle.sequences.specs.Every.{Every}
+use Rattle.sequences.specs.Pick.{by-case}
 use Rattle.refusals.specs.declared.Answer.{Answer}
 use Rattle.refusals.specs.declared.Answer.the-variants as A
 use Rattle.state.specs.declared.Done.{Done}
 use Rattle.state.specs.declared.Engine.{Engine}
-use Rattle.triggers.specs.declared.Outcome.{Outcome}
-use Rattle.triggers.specs.declared.Outcome.the-variants as O
-use Rattle.triggers.specs.declared.Triggered.{Triggered}
-use Rattle.basics.specs.New.{newEngineOf, resetOf}
-use Rattle.changes.specs.Changes.{configuredOf}
-use Rattle.source_calls.specs.Slots.{setSourceOf, retireSourceOf, releaseSourceOf}
-use Rattle.triggers.specs.Triggers.{triggeredOf, triggeredBy}
+use Rattle.engine.specs.declared.triggers.Outcome.{Outcome}
+use Rattle.engine.specs.declared.triggers.Outcome.the-variants as O
+use Rattle.engine.specs.declared.triggers.Triggered.{Triggered}
+use Rattle.engine.specs.New.{newEngineOf, resetOf}
+use Rattle.engine.specs.Changes.{configuredOf}
+use Rattle.engine.specs.Slots.{setSourceOf, retireSourceOf, releaseSourceOf}
+use Rattle.engine.specs.Triggers.{triggeredOf, triggeredBy}
 use Rattle.engine.specs.Advance.{advancedOf}
 use Rattle.frame.specs.declared.Framed.{Framed}
 use Rattle.frame.specs.Call.{framedOf as takeFrameOf}
-use Rattle.fields.specs.Bytes.{be32, be64, f32At}
-use Rattle.fields.specs.Table.{fieldOf}
-use Rattle.fields.specs.declared.Field.{Field}
-use Rattle.fields.specs.declared.Field.the-variants as F
-use Rattle.fields.specs.declared.Kind.{Kind}
-use Rattle.fields.specs.declared.Kind.the-variants as K
-use Rattle.script_reading.specs.Reading.{Placed, Reading, Verdict, onward}
-use Rattle.script_reading.proofs.Steps.{Reads, field, wrong, end, onward-reads}
-use Rattle.script_reading.proofs.Whole.{whole, kindAt, valueOf}
-use Rattle.writer_laws.specs.Events.{events}
-use Rattle.steps.specs.declared.Run.{Run}
-use Rattle.steps.specs.declared.Reply.{Reply}
-use Rattle.steps.specs.declared.Reply.the-variants as R
-use Rattle.steps.specs.Steps.{fresh, answeredOf, doneOf, outcomeOf, firedOf, frameOf, framedOf, sourceOf, stepOf}
-use Rattle.turns.specs.declared.Turn.{Turn}
-use Rattle.turns.specs.Turns.{toldOf, refusalOf, repliedOf, turnsOf}
-use Rattle.turns_laws.specs.Over.{lastLine, turnsOver}
-use Rattle.turns_laws.proofs.Follow.{turns-follow}
-use Rattle.runs.specs.Acts.{Call, Single, Typed, applied}
+use Rattle.script.specs.Bytes.{be32, be64, f32At}
+use Rattle.script.specs.Table.{fieldOf}
+use Rattle.script.specs.declared.fields.Field.{Field}
+use Rattle.script.specs.declared.fields.Field.the-variants as F
+use Rattle.script.specs.declared.fields.Kind.{Kind}
+use Rattle.script.specs.declared.fields.Kind.the-variants as K
+use Rattle.script.specs.Reading.{Placed, Reading, Verdict, onward}
+use Rattle.script.proofs.Steps.{Reads, field, wrong, end, onward-reads}
+use Rattle.script.proofs.Whole.{whole, kindAt, valueOf}
+use Rattle.script_writer_laws.specs.Events.{events}
+use Rattle.script_steps.specs.declared.Run.{Run}
+use Rattle.script_steps.specs.declared.Reply.{Reply}
+use Rattle.script_steps.specs.declared.Reply.the-variants as R
+use Rattle.script_steps.specs.Steps.{fresh, answeredOf, doneOf, outcomeOf, firedOf, frameOf, framedOf, sourceOf, stepOf}
+use Rattle.listing.specs.declared.turns.Turn.{Turn}
+use Rattle.listing.specs.Turns.{toldOf, refusalOf, repliedOf, turnsOf}
+use Rattle.promises.specs.Over.{lastLine, turnsOver}
+use Rattle.promises.proofs.Follow.{turns-follow}
+use Rattle.engine_laws.specs.Acts.{Call, Single, Typed, applied}
 use Rattle.promises.specs.Life.{Held}
 use Rattle.promises.specs.Runs.{run, history, AllTyped, Begins, new, reset}
 use Rattle.promises.specs.Demand3.{AtMoment, OverCalls}

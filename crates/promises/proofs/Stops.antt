@@ -8,37 +8,37 @@ use borrow.Author.Tests.{ne-eqb, eqb-true, le-ltb, lt-ltb, leb-true, leb-false, 
 use lib.Dec.{eqb, ltb, leb}
 use lib.ListN.{length, getD, take, drop}
 use lib.Ieee.{Float}
-use Rattle.lists.specs.Every.{Every}
-use Rattle.lists.specs.Pick.{pick, picked, passed, by-case}
+use Rattle.sequences.specs.Every.{Every}
+use Rattle.sequences.specs.Pick.{pick, picked, passed, by-case}
 use Rattle.refusals.specs.declared.Refusal.the-variants.{Rate, Script}
 use Rattle.refusals.specs.Numbers.{answerOf}
 use Rattle.settings.specs.Settings.{lawfulRate}
 use Rattle.state.specs.declared.Engine.{Engine}
 use Rattle.state.specs.State.{taken, refused}
-use Rattle.basics.specs.New.{newEngineOf}
-use Rattle.fields.specs.Bytes.{f32At}
-use Rattle.fields.specs.Table.{kindOf, fieldOf}
-use Rattle.fields.specs.declared.Field.{Field}
-use Rattle.fields.specs.declared.Field.the-variants as F
+use Rattle.engine.specs.New.{newEngineOf}
+use Rattle.script.specs.Bytes.{f32At}
+use Rattle.script.specs.Table.{kindOf, fieldOf}
+use Rattle.script.specs.declared.fields.Field.{Field}
+use Rattle.script.specs.declared.fields.Field.the-variants as F
 use Rattle.script.specs.Field.{misplaced, readOf}
 use Rattle.script.specs.declared.Read.the-variants as R
-use Rattle.script_reading.specs.Reading.{Placed, Reading, Verdict, placed, inFront, ended, bad, onward}
-use Rattle.script_reading.proofs.Steps.{Reads, field, wrong, end, onward-reads, moved}
-use Rattle.script_reading.proofs.Whole.{whole}
-use Rattle.writer_laws.specs.Events.{isRate, events}
-use Rattle.steps.specs.declared.Run.{Run}
-use Rattle.steps.specs.declared.Reply.{Reply}
-use Rattle.steps.specs.declared.Reply.the-variants as P
-use Rattle.steps.specs.Steps.{fresh, doneOf, stepOf}
-use Rattle.lines.specs.declared.Line.{Line}
-use Rattle.lines.specs.declared.Line.the-variants as L
-use Rattle.turns.specs.declared.Turn.{Turn}
-use Rattle.turns.specs.Turns.{toldOf, repliedOf, turnOf, turnsOf}
-use Rattle.turns.specs.Last.{lastOf, lastTurn}
-use Rattle.turns_laws.specs.Over.{lastLine, turnsOver}
-use Rattle.turns_laws.proofs.Follow.{turns-follow}
+use Rattle.script.specs.Reading.{Placed, Reading, Verdict, placed, inFront, ended, bad, onward}
+use Rattle.script.proofs.Steps.{Reads, field, wrong, end, onward-reads, moved}
+use Rattle.script.proofs.Whole.{whole}
+use Rattle.script_writer_laws.specs.Events.{isRate, events}
+use Rattle.script_steps.specs.declared.Run.{Run}
+use Rattle.script_steps.specs.declared.Reply.{Reply}
+use Rattle.script_steps.specs.declared.Reply.the-variants as P
+use Rattle.script_steps.specs.Steps.{fresh, doneOf, stepOf}
+use Rattle.listing.specs.declared.lines.Line.{Line}
+use Rattle.listing.specs.declared.lines.Line.the-variants as L
+use Rattle.listing.specs.declared.turns.Turn.{Turn}
+use Rattle.listing.specs.Turns.{toldOf, repliedOf, turnOf, turnsOf}
+use Rattle.listing.specs.Last.{lastOf, lastTurn}
+use Rattle.promises.specs.Over.{lastLine, turnsOver}
+use Rattle.promises.proofs.Follow.{turns-follow}
 use Rattle.listing.specs.Printed.{linesOf, lines}
-use Rattle.ending.specs.Ended.{badOf}
+use Rattle.listing.specs.Ended.{badOf}
 use Rattle.promises.specs.Tests.{firstOf, badRate, testsOf, replyNumber}
 use Rattle.promises.specs.Scripts.{moveOf, Course, reached, begunAt, movedBy, courseFrom}
 use Rattle.promises.specs.Stops.{verdictNumber, badNumber, badIn, refusedNumber, rateNumber, stopRows, goesOn, Through, Stops}

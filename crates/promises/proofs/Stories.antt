@@ -10,20 +10,20 @@ use lib.Dec.{eqb, ltb}
 use lib.ListN.{length, getD, set}
 use lib.Seq.{getD-set-same}
 use lib.Ieee.{Float}
-use Rattle.lists.specs.Pick.{pick, picked, passed, by-case}
-use Rattle.lists.specs.First.{first-is}
+use Rattle.sequences.specs.Pick.{pick, picked, passed, by-case}
+use Rattle.sequences.specs.First.{first-is}
 use Rattle.pool.specs.declared.Particle.{Particle}
 use Rattle.pool.specs.declared.Retired.{Retired}
 use Rattle.pool.specs.declared.Retired.the-variants.{Not, At}
 use Rattle.pool.specs.Pool.{freeParticle}
-use Rattle.vacancies.specs.Vacancies.{isFree, freePlace}
-use Rattle.vacancies.proofs.Lowest.{held-below}
+use Rattle.pool.specs.Vacancies.{isFree, freePlace}
+use Rattle.pool.proofs.Lowest.{held-below}
 use Rattle.state.specs.declared.Engine.{Engine}
 use Rattle.state.specs.State.{grown, withNext, withTally}
-use Rattle.tallies.specs.Tallies.{droppedOne, bornOne}
-use Rattle.bearing.specs.Birth.{chosenFor, withLast, triedOne, voiceFor, newbornFor, settledAt, isBarred, admittedOf, attemptedOf, bornOf}
-use Rattle.places.specs.Freed.{sweepOne}
-use Rattle.runs.specs.Acts.{Act, birth, retire, retireBound, retune, frame, source, streams, next, clock, weights, settings, act, perform}
+use Rattle.state.specs.Tallies.{droppedOne, bornOne}
+use Rattle.births.specs.Birth.{chosenFor, withLast, triedOne, voiceFor, newbornFor, settledAt, isBarred, admittedOf, attemptedOf, bornOf}
+use Rattle.frame.specs.Freed.{sweepOne}
+use Rattle.engine_laws.specs.Acts.{Act, birth, retire, retireBound, retune, frame, source, streams, next, clock, weights, settings, act, perform}
 use Rattle.promises.specs.Life.{place, Held, permitted, newborn, Life, lifeOf, Fate, living, freed, due, first, retiredAt, told, onward, story}
 use Rattle.promises.specs.Demand3.{Lowest, Born, FirstDue, Fixed}
 use Rattle.promises.proofs.Lives.{touched, fateOf, touched-told, untouched, due-is, lowest-is, barred-is, Newly, changed}

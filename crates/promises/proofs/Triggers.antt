@@ -8,21 +8,21 @@ use borrow.Author.Tests.{ne-eqb, eq-eqb, ltb-true, ltb-false}
 use lib.Bits.{bitXor}
 use lib.Dec.{eqb, ltb}
 use lib.Ieee.Bits.{is-true}
-use Rattle.lists.specs.All.{all-at, all-true}
-use Rattle.lists.specs.Pick.{pick, picked, passed, by-case}
+use Rattle.sequences.specs.All.{all-at, all-true}
+use Rattle.sequences.specs.Pick.{pick, picked, passed, by-case}
 use Rattle.refusals.specs.declared.Refusal.the-variants.{Slot}
-use Rattle.vacancies.specs.Vacancies.{freePlace}
-use Rattle.vacancies.proofs.Lowest.{held-below}
+use Rattle.pool.specs.Vacancies.{freePlace}
+use Rattle.pool.proofs.Lowest.{held-below}
 use Rattle.births.specs.Births.{newbornOf}
 use Rattle.state.specs.declared.Engine.{Engine}
 use Rattle.state.specs.State.{grown}
-use Rattle.tallies.specs.Tallies.{bornOne}
-use Rattle.bearing.specs.Birth.{chosenFor, voiceFor, newbornFor, attemptedOf, bornOf}
-use Rattle.triggers.specs.declared.Outcome.the-variants.{Born, NotEligible, Dropped, Refused}
-use Rattle.triggers.specs.declared.Triggered.{Triggered}
-use Rattle.triggers.specs.Triggers.{told, reservedOf, isPermitted, outcomeOf, triggeredBy, triggeredOf}
-use Rattle.runs.specs.Acts.{act, perform, triggerActs, reserved, actsOf, applied}
-use Rattle.runs.proofs.Performed.{calls-are-acts}
+use Rattle.state.specs.Tallies.{bornOne}
+use Rattle.births.specs.Birth.{chosenFor, voiceFor, newbornFor, attemptedOf, bornOf}
+use Rattle.engine.specs.declared.triggers.Outcome.the-variants.{Born, NotEligible, Dropped, Refused}
+use Rattle.engine.specs.declared.triggers.Triggered.{Triggered}
+use Rattle.engine.specs.Triggers.{told, reservedOf, isPermitted, outcomeOf, triggeredBy, triggeredOf}
+use Rattle.engine_laws.specs.Acts.{act, perform, triggerActs, reserved, actsOf, applied}
+use Rattle.engine_laws.proofs.Performed.{calls-are-acts}
 use Rattle.promises.specs.Life.{place, permitted}
 use Rattle.promises.specs.Demand3.{Lowest}
 use Rattle.promises.specs.Triggers.{Places, full, answered, Settled}

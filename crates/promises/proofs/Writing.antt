@@ -6,13 +6,13 @@ use native.Mathlib.Omega.{arith}
 use lib.Dec.{ltb, leb}
 use lib.ListN.{length}
 use borrow.Author.Tests.{leb-true, leb-false, lt-ltb, le-ltb}
-use Rattle.lists.specs.Pick.{pick, by-case}
+use Rattle.sequences.specs.Pick.{pick, by-case}
 use Rattle.refusals.specs.Numbers.{answerOf}
 use Rattle.text.specs.Put.{bufferOf}
-use Rattle.fields.specs.declared.Field.{Field}
-use Rattle.writer.specs.Encoded.{encoded}
-use Rattle.writer.specs.Written.{writtenOf}
-use Rattle.writer.proofs.Sizes.{three-bytes}
+use Rattle.script.specs.declared.fields.Field.{Field}
+use Rattle.script_writer.specs.Encoded.{encoded}
+use Rattle.script_writer.specs.Written.{writtenOf}
+use Rattle.script_writer.proofs.Sizes.{three-bytes}
 use Rattle.listing.specs.Listed.{roomFor, listedOf, leftIn}
 use Rattle.promises.specs.Tests.{firstOf, listedNumber}
 

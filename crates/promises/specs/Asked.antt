@@ -6,20 +6,20 @@ use mathlib.Core.List.{List}
 use lib.Dec.{T}
 use lib.ListN.{length, getD}
 use lib.Ieee.{Float, nan, lt, le}
-use Rattle.lists.specs.Every.{Every}
+use Rattle.sequences.specs.Every.{Every}
 use Rattle.floats.specs.Names.{f64, nil, one}
 use Rattle.powers.specs.Power.{exp}
-use Rattle.power64.specs.Exp64.{exp64}
+use Rattle.powers.specs.Exp64.{exp64}
 use Rattle.elementary.specs.Log2.{log2Of}
 use Rattle.refusals.specs.declared.Answer.the-variants.{Taken}
 use Rattle.state.specs.declared.Engine.{Engine}
 use Rattle.engine.specs.Advance.{advancedOf}
 use Rattle.windows.specs.declared.Window.{Window}
-use Rattle.bin_tables.specs.Logs.{lawfulLogs}
-use Rattle.openings.specs.Opened.{openAt}
-use Rattle.attenuation.specs.Attenuation.{openedBy}
+use Rattle.mask_gains.specs.Logs.{lawfulLogs}
+use Rattle.mask_gains.specs.Opened.{openAt}
+use Rattle.windows.specs.Attenuation.{openedBy}
 use Rattle.mask_laws.specs.Finite.{Finite}
-use Rattle.runs.specs.Acts.{Single}
+use Rattle.engine_laws.specs.Acts.{Single}
 
 pub record Asked : Type 0 where
   -- `advance` m then n, both accepted, is `advance` m + n

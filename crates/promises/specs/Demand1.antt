@@ -9,41 +9,41 @@ use lib.Bits.{bitXor}
 use lib.Dec.{eqb, ltb, leb}
 use lib.ListN.{length, getD, drop}
 use lib.Ieee.{Float, isNan}
-use Rattle.lists.specs.All.{all}
+use Rattle.sequences.specs.All.{all}
 use Rattle.floats.specs.Names.{f32}
 use Rattle.refusals.specs.Numbers.{answerOf}
 use Rattle.settings.specs.declared.Config.{Config}
 use Rattle.sources.specs.declared.Source.{Source}
 use Rattle.state.specs.declared.Engine.{Engine}
 use Rattle.state.specs.Make.{preparedOf, newOn}
-use Rattle.basics.specs.New.{newEngineOf}
+use Rattle.engine.specs.New.{newEngineOf}
 use Rattle.engine.specs.Advance.{advancedOf}
-use Rattle.source_calls.specs.Slots.{setSourceOf, retireSourceOf, releaseSourceOf}
-use Rattle.changes.specs.Changes.{configuredOf}
-use Rattle.triggers.specs.declared.Outcome.the-variants.{Born}
-use Rattle.triggers.specs.Triggers.{outcomeNumber, reservedOf, triggeredBy, triggeredOf}
+use Rattle.engine.specs.Slots.{setSourceOf, retireSourceOf, releaseSourceOf}
+use Rattle.engine.specs.Changes.{configuredOf}
+use Rattle.engine.specs.declared.triggers.Outcome.the-variants.{Born}
+use Rattle.engine.specs.Triggers.{outcomeNumber, reservedOf, triggeredBy, triggeredOf}
 use Rattle.windows.specs.declared.Frame.{Frame}
 use Rattle.windows.specs.Opening.{emptyFrame}
 use Rattle.frame.specs.Call.{framedOf}
-use Rattle.bin_tables.specs.Bins as bins
-use Rattle.bin_tables.specs.Logs.{lawfulLogs}
-use Rattle.mask.specs.Gains.{gainsOf}
+use Rattle.mask_gains.specs.Bins as bins
+use Rattle.mask_gains.specs.Logs.{lawfulLogs}
+use Rattle.mask_gains.specs.Gains.{gainsOf}
 use Rattle.mask_records.specs.Entries.{attenuationAt}
 use Rattle.mask_records.specs.Written as records
 use Rattle.mask_records.specs.Found as records-in
 use Rattle.mask_files.specs.Records.{filedOf}
 use Rattle.mask_files.specs.Masks.{logsFor, masksOf}
-use Rattle.fields.specs.Bytes.{be16}
-use Rattle.fields.specs.Table.{kindOf, lengthOf, lawful}
+use Rattle.script.specs.Bytes.{be16}
+use Rattle.script.specs.Table.{kindOf, lengthOf, lawful}
 use Rattle.script.specs.Field.{misplaced, unknown, readOf}
-use Rattle.fields.specs.declared.Field.{Field}
-use Rattle.steps.specs.declared.Run.{Run}
-use Rattle.steps.specs.Steps.{stepOf}
+use Rattle.script.specs.declared.fields.Field.{Field}
+use Rattle.script_steps.specs.declared.Run.{Run}
+use Rattle.script_steps.specs.Steps.{stepOf}
 use Rattle.text.specs.Put.{bufferOf}
-use Rattle.writer.specs.Encoded.{encoded}
-use Rattle.writer.specs.Written.{writtenOf}
+use Rattle.script_writer.specs.Encoded.{encoded}
+use Rattle.script_writer.specs.Written.{writtenOf}
 use Rattle.listing.specs.Listed.{roomFor, listedOf, leftIn}
-use Rattle.turns.specs.Turns.{turnsOf}
+use Rattle.listing.specs.Turns.{turnsOf}
 use Rattle.entry.specs.Entry.{entryAnswer, entryBytes}
 use Rattle.promises.specs.Tests.{Row, firstOf, Given, badRate, badSlot, pastLimit, badSeconds, badRecord, testsOf, replyNumber, readNumber, listedNumber, recordNumber, foundNumber, filedNumber, Kept}
 use Rattle.promises.specs.Triggers.{Places, answered, Settled}

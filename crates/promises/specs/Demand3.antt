@@ -12,9 +12,9 @@ use Rattle.pool.specs.declared.Retired.the-variants.{At}
 use Rattle.pool.specs.Pool.{freeParticle}
 use Rattle.state.specs.declared.Engine.{Engine}
 use Rattle.state.specs.State.{grown}
-use Rattle.places.specs.Freed.{elapsedOf}
+use Rattle.frame.specs.Freed.{elapsedOf}
 use Rattle.frame.specs.Frame.{accepted}
-use Rattle.runs.specs.Acts.{Act, birth, frame, act, perform, Call, takeFrame, actsOf, applied}
+use Rattle.engine_laws.specs.Acts.{Act, birth, frame, act, perform, Call, takeFrame, actsOf, applied}
 use Rattle.promises.specs.Life.{place, Held, permitted, newborn, Life, lifeOf, living, freed, due, story}
 use Rattle.promises.specs.Runs.{run, history, AllTyped, Begins}
 

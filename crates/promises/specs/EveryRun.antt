@@ -3,8 +3,8 @@ use mathlib.Core.Path.{_≡_}
 use mathlib.Core.List.{List, _++_}
 use Rattle.state.specs.declared.Engine.{Engine}
 use Rattle.state.specs.Make.{partialLogs, weightsOf}
-use Rattle.runs.specs.Acts.{Act, perform, Call}
-use Rattle.runs.specs.Lawful.{Lawful}
+use Rattle.engine_laws.specs.Acts.{Act, perform, Call}
+use Rattle.engine_laws.specs.Lawful.{Lawful}
 use Rattle.promises.specs.Runs.{run, history, AllTyped, Begins}
 
 pub record EveryRun : Type 0 where

@@ -13,3 +13,4 @@ pub mod Scripts
 pub mod Stops
 pub mod Tests
 pub mod Triggers
+pub mod Over

@@ -7,16 +7,16 @@ use lib.Dec.{eqb}
 use lib.IntN.{pos}
 use lib.ListN.{getD}
 use lib.Ieee.{Float, binary64, le, ofInt}
-use Rattle.lists.specs.Pick.{pick}
+use Rattle.sequences.specs.Pick.{pick}
 use Rattle.floats.specs.Names.{f64, div64}
 use Rattle.pool.specs.declared.Particle.{Particle}
 use Rattle.pool.specs.declared.Retired.{Retired}
 use Rattle.pool.specs.declared.Retired.the-variants.{Not, At}
 use Rattle.pool.specs.Pool.{freeParticle}
 use Rattle.state.specs.declared.Engine.{Engine}
-use Rattle.bearing.specs.Birth.{chosenFor, newbornFor}
-use Rattle.places.specs.Freed.{elapsedOf}
-use Rattle.runs.specs.Acts.{Act, birth, retire, retireBound, retune, frame, source, streams, next, clock, weights, settings, act}
+use Rattle.births.specs.Birth.{chosenFor, newbornFor}
+use Rattle.frame.specs.Freed.{elapsedOf}
+use Rattle.engine_laws.specs.Acts.{Act, birth, retire, retireBound, retune, frame, source, streams, next, clock, weights, settings, act}
 
 -- what stands at place i
 abbrev pub place : Engine → ℕ → Particle

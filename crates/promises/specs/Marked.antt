@@ -7,10 +7,10 @@ use lib.Ieee.{Float}
 use Rattle.floats.specs.Names.{f32, f64}
 use Rattle.draws.specs.Draws.{mixOf, keyOf}
 use Rattle.elementary.specs.Sqrt.{sqrtOf}
-use Rattle.harmonics.specs.Partials.{partialsOf}
-use Rattle.mending.specs.Mending.{phaseOf}
+use Rattle.pitch.specs.Partials.{partialsOf}
+use Rattle.settings.specs.Mending.{phaseOf}
 use Rattle.state.specs.declared.Engine.{Engine}
-use Rattle.changes.specs.Changes.{soughtOf}
+use Rattle.engine.specs.Changes.{soughtOf}
 use Rattle.windows.specs.declared.Window.{Window}
 use Rattle.windows.specs.Opening.{taperOf, opennessOf}
 

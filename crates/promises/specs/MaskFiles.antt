@@ -5,13 +5,13 @@ use mathlib.Core.Bool.{true, false}
 use mathlib.Core.List.{List, _++_}
 use lib.ListN.{length, getD, take, drop}
 use lib.Ieee.{Float, isNan}
-use Rattle.lists.specs.Every.{Every}
+use Rattle.sequences.specs.Every.{Every}
 use Rattle.windows.specs.declared.Frame.{Frame}
-use Rattle.mask.specs.Gains.{quietOf}
-use Rattle.decibels.specs.Entries.{entries, entryOf, isEntry}
-use Rattle.decibels.specs.Rule.{Entry, Tenth}
-use Rattle.decibels.specs.Tenths.{held, tenthsOf}
-use Rattle.writer_laws.specs.Events.{Byte}
+use Rattle.mask_gains.specs.Gains.{quietOf}
+use Rattle.mask_records.specs.Decibels.{entries, entryOf, isEntry}
+use Rattle.mask_records.specs.Rule.{Entry, Tenth}
+use Rattle.mask_records.specs.Tenths.{held, tenthsOf}
+use Rattle.script_writer_laws.specs.Events.{Byte}
 use Rattle.mask_records.specs.declared.Written.the-variants.{Upto}
 use Rattle.mask_records.specs.declared.Read.the-variants.{Found}
 use Rattle.mask_records.specs.Bytes.{recordOf, fileOf}
@@ -19,7 +19,7 @@ use Rattle.mask_records.specs.Entries.{attenuationAt}
 use Rattle.mask_records.specs.Placed.{sizeOf}
 use Rattle.mask_records.specs.Written.{entriesOf, writtenOf}
 use Rattle.mask_records.specs.Found.{readOf}
-use Rattle.mask_records_laws.specs.Files.{Record, Whole, ReadsAs}
+use Rattle.mask_laws.specs.Files.{Record, Whole, ReadsAs}
 use Rattle.text.specs.Put.{splice}
 use Rattle.mask_files.specs.declared.Filed.the-variants as Files
 use Rattle.mask_files.specs.Masks.{recordsOf, masksOf}

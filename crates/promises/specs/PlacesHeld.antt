@@ -3,16 +3,16 @@
 use Prim.Native.Nat.{ℕ}
 use mathlib.Core.Path.{_≡_}
 use mathlib.Core.List.{List, _++_, map}
-use Rattle.lists.specs.Every.{Every}
-use Rattle.vacancies.specs.Vacancies.{activeCount}
+use Rattle.sequences.specs.Every.{Every}
+use Rattle.pool.specs.Vacancies.{activeCount}
 use Rattle.state.specs.declared.Engine.{Engine}
-use Rattle.frame_values.specs.declared.Values.{Values}
-use Rattle.lines.specs.declared.Line.{Line}
-use Rattle.lines.specs.declared.Line.the-variants as L
-use Rattle.turns.specs.declared.Turn.{Turn}
-use Rattle.turns.specs.Turns.{turnsOf}
+use Rattle.script_steps.specs.declared.values.Values.{Values}
+use Rattle.listing.specs.declared.lines.Line.{Line}
+use Rattle.listing.specs.declared.lines.Line.the-variants as L
+use Rattle.listing.specs.declared.turns.Turn.{Turn}
+use Rattle.listing.specs.Turns.{turnsOf}
 use Rattle.listing.specs.Printed.{linesOf}
-use Rattle.runs.specs.Acts.{Act, perform, Call}
+use Rattle.engine_laws.specs.Acts.{Act, perform, Call}
 use Rattle.promises.specs.Runs.{run, history, Begins}
 
 -- the number is self.particles.iter().filter(|p| p.active).count()

@@ -12,14 +12,14 @@ use Rattle.elementary.specs.Log2.{log2Of}
 use Rattle.settings.specs.declared.Direction.{Direction}
 use Rattle.settings.specs.declared.Shape.the-variants.{Sprinkle, Cloud}
 use Rattle.settings.specs.Settings.{lawfulRate}
-use Rattle.registers.specs.Register.{minHz}
-use Rattle.octaves.specs.Octave.{firstOf, octavesOf, upperOf, registerOf}
+use Rattle.pitch.specs.Register.{minHz}
+use Rattle.pitch.specs.Octave.{firstOf, octavesOf, upperOf, registerOf}
 use Rattle.pitch.specs.Cloud.{rampOf, frequencyOf}
 use Rattle.pitch_laws.specs.Guarded as guarded
-use Rattle.voices.specs.Voices.{maxHzOf}
+use Rattle.births.specs.Voices.{maxHzOf}
 use Rattle.state.specs.declared.Engine.{Engine}
-use Rattle.bearing.specs.Birth.{chosenFor}
-use Rattle.runs.specs.Acts.{Act, birth, perform, Call, Single}
+use Rattle.births.specs.Birth.{chosenFor}
+use Rattle.engine_laws.specs.Acts.{Act, birth, perform, Call, Single}
 use Rattle.promises.specs.Life.{newborn}
 use Rattle.promises.specs.Runs.{history, AllTyped, Begins}
 

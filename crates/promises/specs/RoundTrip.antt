@@ -4,19 +4,19 @@ use mathlib.Core.Path.{_≡_}
 use mathlib.Core.List.{List, [], _∷_}
 use lib.ListN.{length}
 use lib.Ieee.{nan}
-use Rattle.lists.specs.Every.{Every}
-use Rattle.fields.specs.declared.Field.{Field}
-use Rattle.script_reading.specs.Reading.{readingOf, ended}
+use Rattle.sequences.specs.Every.{Every}
+use Rattle.script.specs.declared.fields.Field.{Field}
+use Rattle.script.specs.Reading.{readingOf, ended}
 use Rattle.settings.specs.declared.Config.{Config}
 use Rattle.state.specs.declared.Engine.{Engine}
-use Rattle.changes.specs.Changes.{configuredOf}
-use Rattle.fields.specs.declared.Field.the-variants as F
+use Rattle.engine.specs.Changes.{configuredOf}
+use Rattle.script.specs.declared.fields.Field.the-variants as F
 use Rattle.big_endian.specs.Bytes.{single, double}
-use Rattle.writer.specs.Encoded.{encoded, encodedAll}
+use Rattle.script_writer.specs.Encoded.{encoded, encodedAll}
 use Rattle.text.specs.Put.{splice}
-use Rattle.writer_laws.specs.InARow.{countAfter, bytesAfter}
-use Rattle.writer_laws.specs.Wide.{heldConfig}
-use Rattle.writer_laws.specs.Events.{Held, Ordered, PlainNans, Byte, events}
+use Rattle.script_writer_laws.specs.InARow.{countAfter, bytesAfter}
+use Rattle.script_writer_laws.specs.Wide.{heldConfig}
+use Rattle.script_writer_laws.specs.Events.{Held, Ordered, PlainNans, Byte, events}
 
 pub record RoundTrip : Type 0 where
   -- events that are written one behind the other, where there is room for all, stand in the buffer as the bytes of their list, and the rest of it stays

@@ -2,8 +2,8 @@
 use mathlib.Core.List.{List, [], _∷_, _++_}
 use lib.Ieee.{Float}
 use Rattle.state.specs.declared.Engine.{Engine}
-use Rattle.basics.specs.New.{newEngineOf, resetOf}
-use Rattle.runs.specs.Acts.{Act, Call, Single, Typed, actsOf, applied}
+use Rattle.engine.specs.New.{newEngineOf, resetOf}
+use Rattle.engine_laws.specs.Acts.{Act, Call, Single, Typed, actsOf, applied}
 
 unfoldable pub run : Engine → List Call → Engine
 unfolding applied

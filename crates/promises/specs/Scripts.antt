@@ -5,16 +5,16 @@ use mathlib.Core.List.{List, [], _∷_, _++_, map}
 use lib.ListN.{length, take}
 use lib.Ieee.{Float}
 use Rattle.state.specs.declared.Engine.{Engine}
-use Rattle.basics.specs.New.{newEngineOf, resetOf}
-use Rattle.fields.specs.declared.Field.{Field}
-use Rattle.fields.specs.declared.Field.the-variants as F
-use Rattle.script_reading.specs.Reading.{onward}
-use Rattle.writer_laws.specs.Events.{events}
-use Rattle.steps.specs.declared.Run.{Run}
-use Rattle.steps.specs.Steps.{fresh, sourceOf, stepOf}
-use Rattle.turns.specs.declared.Turn.{Turn}
-use Rattle.turns.specs.Turns.{turnsOf}
-use Rattle.runs.specs.Acts.{Call, configure, noteInput, setSource, retireSource, releaseSource, trigger, reserve, reserved, seek, advance, takeFrame, applied}
+use Rattle.engine.specs.New.{newEngineOf, resetOf}
+use Rattle.script.specs.declared.fields.Field.{Field}
+use Rattle.script.specs.declared.fields.Field.the-variants as F
+use Rattle.script.specs.Reading.{onward}
+use Rattle.script_writer_laws.specs.Events.{events}
+use Rattle.script_steps.specs.declared.Run.{Run}
+use Rattle.script_steps.specs.Steps.{fresh, sourceOf, stepOf}
+use Rattle.listing.specs.declared.turns.Turn.{Turn}
+use Rattle.listing.specs.Turns.{turnsOf}
+use Rattle.engine_laws.specs.Acts.{Call, configure, noteInput, setSource, retireSource, releaseSource, trigger, reserve, reserved, seek, advance, takeFrame, applied}
 use Rattle.promises.specs.Life.{Held}
 use Rattle.promises.specs.Runs.{run, history, AllTyped, Begins}
 use Rattle.promises.specs.Demand3.{AtMoment, NoneDue, OverCalls}

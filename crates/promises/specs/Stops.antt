@@ -5,22 +5,22 @@ use mathlib.Core.Bool.{Bool, true, false, not}
 use mathlib.Core.List.{List, [], _∷_, _++_}
 use lib.Dec.{eqb, ltb}
 use lib.ListN.{length}
-use Rattle.lists.specs.Every.{Every}
-use Rattle.lists.specs.Pick.{pick}
+use Rattle.sequences.specs.Every.{Every}
+use Rattle.sequences.specs.Pick.{pick}
 use Rattle.refusals.specs.declared.Refusal.the-variants.{Rate, Script}
 use Rattle.refusals.specs.Numbers.{numberOf, answerOf}
-use Rattle.fields.specs.declared.Field.{Field}
-use Rattle.script_reading.specs.Reading.{Verdict, ended, bad, onward}
-use Rattle.writer_laws.specs.Events.{isRate}
-use Rattle.steps.specs.Steps.{fresh}
-use Rattle.lines.specs.declared.Line.{Line}
-use Rattle.lines.specs.declared.Line.the-variants as L
-use Rattle.turns.specs.declared.Turn.{Turn}
-use Rattle.turns.specs.Turns.{turnsOf}
-use Rattle.turns.specs.Last.{lastTurn}
-use Rattle.turns_laws.specs.Over.{lastLine}
+use Rattle.script.specs.declared.fields.Field.{Field}
+use Rattle.script.specs.Reading.{Verdict, ended, bad, onward}
+use Rattle.script_writer_laws.specs.Events.{isRate}
+use Rattle.script_steps.specs.Steps.{fresh}
+use Rattle.listing.specs.declared.lines.Line.{Line}
+use Rattle.listing.specs.declared.lines.Line.the-variants as L
+use Rattle.listing.specs.declared.turns.Turn.{Turn}
+use Rattle.listing.specs.Turns.{turnsOf}
+use Rattle.listing.specs.Last.{lastTurn}
+use Rattle.promises.specs.Over.{lastLine}
 use Rattle.listing.specs.Printed.{linesOf, lines}
-use Rattle.ending.specs.Ended.{badOf}
+use Rattle.listing.specs.Ended.{badOf}
 use Rattle.promises.specs.Tests.{Row, firstOf, testsOf}
 use Rattle.promises.specs.Scripts.{fieldsOf, reached, courseOf}
 

@@ -7,26 +7,26 @@ use lib.Dec.{eqb, ltb, leb}
 use lib.ListN.{length, getD}
 use lib.Ieee.{Float, le}
 use lib.Ieee.Scale.{finite}
-use Rattle.lists.specs.All.{all}
-use Rattle.lists.specs.Pick.{pick}
+use Rattle.sequences.specs.All.{all}
+use Rattle.sequences.specs.Pick.{pick}
 use Rattle.floats.specs.Names.{f32}
 use Rattle.refusals.specs.Numbers.{numberOf, answerOf}
 use Rattle.state.specs.declared.Done.{Done}
 use Rattle.state.specs.declared.Engine.{Engine}
-use Rattle.decibels.specs.Entries.{isEntry}
+use Rattle.mask_records.specs.Decibels.{isEntry}
 use Rattle.mask_records.specs.declared.Written.{Written}
 use Rattle.mask_records.specs.declared.Written.the-variants as W
 use Rattle.mask_records.specs.declared.Read as reader
 use Rattle.mask_records.specs.declared.Read.the-variants as M
 use Rattle.mask_files.specs.declared.Filed.{Filed}
 use Rattle.mask_files.specs.declared.Filed.the-variants as Files
-use Rattle.fields.specs.Bytes.{be16}
-use Rattle.fields.specs.declared.Field.{Field}
-use Rattle.fields.specs.declared.Field.the-variants as F
+use Rattle.script.specs.Bytes.{be16}
+use Rattle.script.specs.declared.fields.Field.{Field}
+use Rattle.script.specs.declared.fields.Field.the-variants as F
 use Rattle.script.specs.declared.Read.{Read}
 use Rattle.script.specs.declared.Read.the-variants as R
-use Rattle.steps.specs.declared.Reply.{Reply}
-use Rattle.steps.specs.declared.Reply.the-variants as P
+use Rattle.script_steps.specs.declared.Reply.{Reply}
+use Rattle.script_steps.specs.declared.Reply.the-variants as P
 use Rattle.listing.specs.declared.Listed.{Listed}
 use Rattle.listing.specs.declared.Listed.the-variants as L
 

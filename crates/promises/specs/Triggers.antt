@@ -4,13 +4,13 @@ use mathlib.Core.Path.{_≡_}
 use mathlib.Core.Bool.{Bool, not, _||_}
 use lib.Dec.{eqb}
 use lib.ListN.{length}
-use Rattle.lists.specs.All.{all}
-use Rattle.lists.specs.Pick.{pick}
+use Rattle.sequences.specs.All.{all}
+use Rattle.sequences.specs.Pick.{pick}
 use Rattle.refusals.specs.declared.Refusal.the-variants.{Slot}
 use Rattle.state.specs.declared.Engine.{Engine}
-use Rattle.triggers.specs.declared.Outcome.{Outcome}
-use Rattle.triggers.specs.declared.Outcome.the-variants.{Born, NotEligible, Dropped, Refused}
-use Rattle.triggers.specs.Triggers.{isPermitted}
+use Rattle.engine.specs.declared.triggers.Outcome.{Outcome}
+use Rattle.engine.specs.declared.triggers.Outcome.the-variants.{Born, NotEligible, Dropped, Refused}
+use Rattle.engine.specs.Triggers.{isPermitted}
 use Rattle.promises.specs.Life.{place, Held, newborn}
 use Rattle.promises.specs.Demand3.{Lowest}
 use Rattle.promises.specs.Tests.{badSlot}

@@ -1,2 +1,7 @@
 pub mod Part
 pub mod Taken
+pub mod Past
+pub mod Places
+pub mod Script
+pub mod Steps
+pub mod Whole

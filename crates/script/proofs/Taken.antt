@@ -6,13 +6,13 @@ use native.Mathlib.Omega.{arith}
 use lib.ListN.{length, getD, drop}
 use lib.Dec.{eqb, ltb, leb}
 use borrow.Author.Tests.{ltb-false, leb-true}
-use Rattle.lists.specs.Pick.{by-case}
-use Rattle.fields.specs.Bytes.{be16}
-use Rattle.fields.specs.Table.{kindOf, lawful, lengthOf}
+use Rattle.sequences.specs.Pick.{by-case}
+use Rattle.script.specs.Bytes.{be16}
+use Rattle.script.specs.Table.{kindOf, lawful, lengthOf}
 use Rattle.script.specs.Field.{bodyOf, misplaced, unknown, readOf}
 use Rattle.refusals.specs.declared.Refusal.{Refusal}
-use Rattle.fields.specs.declared.Kind.{Kind}
-use Rattle.fields.specs.declared.Field.{Field}
+use Rattle.script.specs.declared.fields.Kind.{Kind}
+use Rattle.script.specs.declared.fields.Field.{Field}
 use Rattle.script.specs.declared.Read.{Read}
 use Rattle.script.specs.declared.Read.the-variants as R
 

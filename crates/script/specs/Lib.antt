@@ -1,1 +1,4 @@
 pub mod Field
+pub mod Bytes
+pub mod Table
+pub mod Reading

@@ -4,8 +4,9 @@ ghost use Prim.Native.Nat.{_+_, _*_, _≤_};
 ghost use lib.ListN.{length};
 ghost use Rattle.script.specs.Field.{bodyOf};
 use crate::Read;
+use crate::fields::Kind;
 use crate::kinds;
-use fields::Kind;
+use crate::values;
 use refusals::Refusal;
 
 // The length that a header says.
@@ -29,8 +30,8 @@ pub fn body_of(kind: Kind, s: &[u8]) -> Read
         return Read::Bad(Refusal::Cut);
     }
     let v = &s[3..];
-    if fields::is_lawful(kind, v) {
-        Read::Field(fields::field_of(kind, v), 3 + n)
+    if values::is_lawful(kind, v) {
+        Read::Field(values::field_of(kind, v), 3 + n)
     } else {
         Read::Bad(Refusal::Value)
     }

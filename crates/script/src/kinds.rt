@@ -1,7 +1,7 @@
 // What each tag stands for, and how long its value is.
 ghost use mathlib.Core.Path.{_≡_};
-ghost use Rattle.fields.specs.Table.{kindOf, lengthOf};
-use fields::Kind;
+ghost use Rattle.script.specs.Table.{kindOf, lengthOf};
+use crate::fields::Kind;
 
 const KINDS: [Kind; 14] = [
     Kind::Unknown,

@@ -3,11 +3,18 @@ ghost use mathlib.Core.Path.{_≡_};
 ghost use Prim.Native.Nat.{_<_};
 ghost use lib.ListN.{length};
 ghost use Rattle.script.specs.Field.{misplaced, unknown, readOf};
-use fields::Field;
 use refusals::Refusal;
 
 mod body;
+mod bytes;
+mod fields;
 mod kinds;
+mod values;
+
+pub use bytes::be16_at;
+pub use bytes::be64_at;
+pub use bytes::byte;
+pub use fields::Field;
 
 pub enum Read {
     // The field, and how many bytes it takes.

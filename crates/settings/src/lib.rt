@@ -4,6 +4,13 @@ ghost use Rattle.settings.specs.Settings.{isSprinkle, defaultConfig, che
 use refusals::Answer;
 use refusals::Refusal;
 
+mod envelopes;
+mod mending;
+
+pub use envelopes::Contour;
+pub use envelopes::envelope;
+pub use mending::mended;
+
 // Added by 01: a larger hop is refused.
 pub const MAX_HOP_SAMPLES: usize = 16384;
 

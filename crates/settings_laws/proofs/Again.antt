@@ -9,9 +9,9 @@ use lib.Ieee.{Float, fin, binary32, ofBits, rem, add, sum, round, lt, le, eq, fi
 use lib.Ieee.Fits.{cond-fits}
 use lib.Ieee.Scale.{finite}
 use lib.Ieee.Bits.{is-true, ofBits-fits}
-use Rattle.lists.specs.Pick.{pick, by-case}
+use Rattle.sequences.specs.Pick.{pick, by-case}
 use Rattle.floats.specs.Names.{f32, nil, one}
-use Rattle.choices.specs.Choose.{clamp, abs}
+use Rattle.floats.specs.Choose.{clamp, abs}
 use Rattle.floats.specs.Remainder.{remEuclid}
 use Rattle.floats_laws.proofs.Rules.{between-finite}
 use Rattle.floats_laws.proofs.Rising.{nought}
@@ -20,7 +20,7 @@ use Rattle.floats_laws.proofs.Choosing.{clamp-fits}
 use Rattle.floats_laws.proofs.Again.{clamp-again, clamp-finite, euclid-fits, euclid-again}
 use Rattle.settings.specs.declared.Config.{Config}
 use Rattle.settings_laws.specs.Phase.{withPhase}
-use Rattle.mending.specs.Mending.{finiteOr, heldTo, attackOf, releaseMsOf, partialsOf, rolloffOf, rateOf, sizeOf, phaseOf, mendedOf}
+use Rattle.settings.specs.Mending.{finiteOr, heldTo, attackOf, releaseMsOf, partialsOf, rolloffOf, rateOf, sizeOf, phaseOf, mendedOf}
 
 -- ---- `finite`
 pub finite-again : (x d : Float) → finiteOr (finiteOr x d) d ≡ finiteOr x d

@@ -13,7 +13,7 @@ use lib.Ieee.Fits.{down-pos, round-fits}
 use lib.Ieee.Exact.{HasValue, round-exact}
 use lib.Ieee.Order.{round-mono}
 use denote.Floats.{passes}
-use Rattle.lists.specs.Pick.{by-case}
+use Rattle.sequences.specs.Pick.{by-case}
 use Rattle.floats.specs.Names.{add32, div32, one}
 use Rattle.floats_laws.proofs.Mag.{Upto, Least, le-of}
 use Rattle.floats_laws.proofs.Rising.{nought}

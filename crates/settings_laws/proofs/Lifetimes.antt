@@ -5,9 +5,9 @@ use lib.Dec.{T, eqb, lit≤, lit<}
 use lib.Ieee.{Float, binary32, ofBits, lt, le, eq, fits, isNan}
 use lib.Ieee.Scale.{finite}
 use lib.Ieee.Bits.{is-false, ofBits-fits}
-use Rattle.lists.specs.Pick.{either}
+use Rattle.sequences.specs.Pick.{either}
 use Rattle.floats.specs.Names.{f32, add32, sub32, mul32, div32, nil, one, two}
-use Rattle.choices.specs.Choose.{max, clamp}
+use Rattle.floats.specs.Choose.{max, clamp}
 use Rattle.floats_laws.proofs.Rules.{finite-number, le-trans, between-finite}
 use Rattle.floats_laws.proofs.Rising.{nought}
 use Rattle.floats_laws.proofs.Choosing as choosing
@@ -20,14 +20,14 @@ use Rattle.draws.proofs.Unit.{random-mag}
 use Rattle.elementary.specs.Sqrt.{sqrtOf}
 use Rattle.elementary_laws.proofs.RootRises.{lowest, lowest-root, highest, highest-root, sqrt-window, sqrt-finite}
 use Rattle.settings.specs.declared.Config.{Config}
-use Rattle.envelopes.specs.declared.Contour.{Contour}
+use Rattle.settings.specs.declared.envelopes.Contour.{Contour}
 use Rattle.settings.specs.declared.Shape.{Shape}
 use Rattle.settings.specs.declared.Shape.the-variants.{Sprinkle, Cloud}
 use Rattle.settings.specs.declared.Direction.{Direction}
 use Rattle.settings.specs.declared.Direction.the-variants.{Forward, Reverse, Alternate}
 use Rattle.settings.specs.Settings.{maxHop, lawfulRate}
-use Rattle.mending.specs.Mending.{finiteOr, heldTo, attackOf, releaseMsOf, rateOf, sizeOf, mendedOf}
-use Rattle.envelopes.specs.Envelope.{hopFloorOf, onsetOf, releaseOf, sprinkleOf, variationOf, rawOf, cloudLifetimeOf, cloudAttack, reverseAttack, cloudAttackOf, cloudOf, byShape, envelopeOf}
+use Rattle.settings.specs.Mending.{finiteOr, heldTo, attackOf, releaseMsOf, rateOf, sizeOf, mendedOf}
+use Rattle.settings.specs.Envelope.{hopFloorOf, onsetOf, releaseOf, sprinkleOf, variationOf, rawOf, cloudLifetimeOf, cloudAttack, reverseAttack, cloudAttackOf, cloudOf, byShape, envelopeOf}
 use Rattle.settings_laws.proofs.Again.{finite-or, or-fits}
 use Rattle.settings_laws.proofs.Seconds.{floor-upto, onset-least, onset-upto, release-least, release-upto}
 use Rattle.settings_laws.proofs.Attack.{Part, stage-part}

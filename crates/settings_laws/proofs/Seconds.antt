@@ -11,15 +11,15 @@ use lib.Ieee.{Float, nan, inf, fin, binary32, up, down, ofBits, ofInt, mul, div,
 use lib.Ieee.Fits.{down-pos, and-l, and-r}
 use lib.Ieee.Exact.{HasValue}
 use denote.Floats.{passes}
-use Rattle.lists.specs.Pick.{by-case}
+use Rattle.sequences.specs.Pick.{by-case}
 use Rattle.floats.specs.Names.{f32, mul32, div32, sub32, two}
-use Rattle.choices.specs.Choose.{max}
+use Rattle.floats.specs.Choose.{max}
 use Rattle.floats_laws.proofs.Mag.{Mag, Upto, Least, round-mag, round-upto, le-of}
 use Rattle.floats_laws.proofs.Bounds.{max-mag, mul-upto, of-upto, apart-mag}
 use Rattle.floats_laws.proofs.Held.{max-least}
 use Rattle.floats_laws.proofs.Spans.{least-upto, max-least-left}
 use Rattle.settings.specs.Settings.{maxHop, lawfulRate}
-use Rattle.envelopes.specs.Envelope.{milli, minStage, hopFloorOf, onsetOf, releaseOf}
+use Rattle.settings.specs.Envelope.{milli, minStage, hopFloorOf, onsetOf, releaseOf}
 
 -- ---- milliseconds: 5000 * 0.001 rounds to 5
 five-thousand : HasValue (round binary32 false (5000 * 8589935) (2 ^ 33)) false 5 1

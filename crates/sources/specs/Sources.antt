@@ -2,7 +2,7 @@
 use mathlib.Core.Bool.{Bool, false, not}
 use lib.Ieee.{Float, lt, eq}
 use lib.Ieee.Scale.{finite}
-use Rattle.lists.specs.Pick.{pick}
+use Rattle.sequences.specs.Pick.{pick}
 use Rattle.floats.specs.Names.{f32}
 use Rattle.sources.specs.declared.Source.{Source}
 

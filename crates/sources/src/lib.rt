@@ -3,6 +3,10 @@
 ghost use mathlib.Core.Path.{_≡_};
 ghost use Rattle.sources.specs.Sources.{noSource, same, isEligible, isPitched, releasedOf};
 
+mod choice;
+
+pub use choice::choose;
+
 pub const MAX_SOURCES: usize = 256;
 
 pub struct Source {

@@ -5,9 +5,9 @@ use mathlib.Core.List.{List, [], _∷_}
 use lib.IntN.{pos}
 use lib.ListN.{getD, replicate}
 use lib.Ieee.{Float, nan, binary32, ofInt, neg}
-use Rattle.lists.specs.Table.{table}
+use Rattle.sequences.specs.Table.{table}
 use Rattle.floats.specs.Names.{f32, f64, mul32, sub64, mul64, div64}
-use Rattle.power64.specs.Exp64.{exp64}
+use Rattle.powers.specs.Exp64.{exp64}
 use Rattle.elementary.specs.Log2.{log2Of}
 use Rattle.powers.specs.Power.{dbToGain}
 use Rattle.pool.specs.declared.Particle.{Particle}

@@ -9,10 +9,13 @@ use sources::Source;
 use timing::SprinkleStream;
 
 mod make;
+mod tallies;
 
 pub use make::from_prepared;
 pub use make::prepare;
 pub use make::weights;
+pub use tallies::bear_one;
+pub use tallies::drop_one;
 
 // What follows from the sample rate, kept across resets.
 pub struct Prepared {

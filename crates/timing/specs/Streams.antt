@@ -5,13 +5,13 @@ use mathlib.Core.List.{List, [], _∷_}
 use lib.IntN.{pos}
 use lib.Dec.{ltb}
 use lib.Ieee.{Float, binary64, ofInt, toUnsigned, le}
-use Rattle.lists.specs.Pick.{pick}
+use Rattle.sequences.specs.Pick.{pick}
 use Rattle.floats.specs.Names.{f64, add64, sub64, mul64, div64}
-use Rattle.choices.specs.Choose.{max}
+use Rattle.floats.specs.Choose.{max}
 use Rattle.floats.specs.Whole.{floor}
-use Rattle.words.specs.Word.{product}
+use Rattle.floats.specs.Word.{product}
 use Rattle.draws.specs.Draws.{randomOf, keyOf}
-use Rattle.starts.specs.Starts.{after, nil, half, emitOf, nextOf}
+use Rattle.timing.specs.Starts.{after, nil, half, emitOf, nextOf}
 use Rattle.timing.specs.declared.SprinkleStream.{SprinkleStream}
 
 -- ---- SprinkleStream::prepare

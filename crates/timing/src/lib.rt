@@ -3,6 +3,10 @@
 ghost use mathlib.Core.Path.{_≡_};
 ghost use Rattle.timing.specs.Streams.{preparedOf, newOf, larger, groupOf, skippedOf, alignedOf, alignedAll, movedOf, referenceOf};
 
+mod starts;
+
+pub use starts::SPRINKLE_GROUP_CYCLES;
+
 // Three independent streams share one Rate budget.
 // Each has 0, 1 or 2 starts (25, 50, 25 %) in three Rate cycles: on average one a cycle in all.
 pub const SPRINKLE_STREAMS: usize = 3;

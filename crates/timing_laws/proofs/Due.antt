@@ -11,11 +11,11 @@ use lib.Dec.{T, ltb, lit≤, lit<}
 use lib.Ieee.{Float, nan, inf, fin, binary64, ofBits, ofInt, toUnsigned, up, down, units, odd, size, span, climb, round, add, sum, mul, le, lt, eq, fits, isNan}
 use lib.Ieee.Fits.{add-fits, down-pos}
 use lib.Ieee.Scale.{finite}
-use Rattle.lists.specs.Pick.{by-case}
+use Rattle.sequences.specs.Pick.{by-case}
 use Rattle.floats.specs.Names.{f64, add64, sub64, mul64, div64}
 use Rattle.floats.specs.Whole.{floor}
-use Rattle.choices.specs.Choose.{max}
-use Rattle.words.specs.Word.{product}
+use Rattle.floats.specs.Choose.{max}
+use Rattle.floats.specs.Word.{product}
 use Rattle.floats_laws.proofs.Keys.{key}
 use Rattle.floats_laws.proofs.Rules.{finite-number, add-number, le-left, le-trans as float-trans}
 use Rattle.floats_laws.proofs.Rising.{add-rises, add-rises-right, mul-rises}
@@ -28,7 +28,7 @@ use Rattle.floats_laws.proofs.Powers.{of-power, floor-mag}
 use Rattle.floats_laws.proofs.Fractions.{Under, mag-under}
 use Rattle.floats_laws.proofs.Between.{under-least}
 use Rattle.draws.specs.Draws.{randomOf}
-use Rattle.starts.specs.Starts.{nil, half, startOf, gapOf, humanOf, nextOf}
+use Rattle.timing.specs.Starts.{nil, half, startOf, gapOf, humanOf, nextOf}
 use Rattle.timing.specs.Streams.{groupOf, referenceOf}
 use Rattle.timing_laws.proofs.Starts.{start-mag, gap-mag, human-mag, about-mag}
 

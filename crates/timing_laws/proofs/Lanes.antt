@@ -8,13 +8,13 @@ use lib.Dec.{T, ltb}
 use lib.Ieee.{Float, binary64, lt, le, fits}
 use lib.Ieee.Fits.{add-fits}
 use lib.Ieee.Scale.{finite}
-use Rattle.lists.specs.Pick.{either}
-use Rattle.lists.specs.Every.{Every}
+use Rattle.sequences.specs.Pick.{either}
+use Rattle.sequences.specs.Every.{Every}
 use Rattle.floats_laws.proofs.Rules.{finite-number, not-lt→le}
 use Rattle.floats_laws.proofs.Mag.{Mag, mag-finite}
 use Rattle.draws.specs.Draws.{keyOf}
 use Rattle.timing.specs.declared.SprinkleStream.{SprinkleStream}
-use Rattle.starts.specs.Starts.{after, nextOf}
+use Rattle.timing.specs.Starts.{after, nextOf}
 use Rattle.timing.specs.Streams.{preparedOf, newOf, groupOf, alignedOf, alignedAll, skippedOf, larger, movedOf}
 use Rattle.timing_laws.proofs.Starts.{next-mag}
 use Rattle.timing_laws.proofs.Moves.{aligned-index}

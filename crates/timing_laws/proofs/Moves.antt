@@ -8,10 +8,10 @@ use lib.Dec.{ltb}
 use lib.Pow.{pow-pos}
 use lib.Ieee.{Float, le}
 use borrow.Author.Tests.{ltb-true, ltb-false}
-use Rattle.lists.specs.Pick.{pick, by-case, either}
-use Rattle.words.specs.Word.{product}
+use Rattle.sequences.specs.Pick.{pick, by-case, either}
+use Rattle.floats.specs.Word.{product}
 use Rattle.timing.specs.declared.SprinkleStream.{SprinkleStream}
-use Rattle.starts.specs.Starts.{after}
+use Rattle.timing.specs.Starts.{after}
 use Rattle.timing.specs.Streams.{preparedOf, groupOf, skippedOf, alignedOf, larger, movedOf}
 
 pub prepared-index : (i lane : ℕ) (sync : Bool) → preparedOf i lane sync .index ≡ i

@@ -14,7 +14,7 @@ use Rattle.floats_laws.proofs.Bounds.{add-mag, sub-mag, mul-mag, of-upto}
 use Rattle.floats_laws.proofs.Powers.{add-power, mul-power, of-power, floor-mag}
 use Rattle.draws.specs.Draws.{randomOf, keyOf}
 use Rattle.draws.proofs.Unit.{random-mag}
-use Rattle.starts.specs.Starts.{after, quarter, half, startOf, gapOf, humanOf, nextOf}
+use Rattle.timing.specs.Starts.{after, quarter, half, startOf, gapOf, humanOf, nextOf}
 use Rattle.timing.specs.Streams.{preparedOf, referenceOf}
 
 -- ---- the parts

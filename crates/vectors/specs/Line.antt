@@ -3,8 +3,8 @@ use Prim.Native.Nat.{ℕ, _+_, _-_, _*_}
 use mathlib.Core.List.{List}
 use lib.Dec.{ltb}
 use lib.ListN.{getD}
-use Rattle.lists.specs.Pick.{pick}
-use Rattle.lists.specs.Times.{times}
+use Rattle.sequences.specs.Pick.{pick}
+use Rattle.sequences.specs.Times.{times}
 
 -- 0 to 9 and a to f; any other byte counts as 0
 unfoldable pub digitOf : ℕ → ℕ

@@ -10,7 +10,7 @@ use lib.Ieee.{Float, nan, inf, fin, Format, prec, emax, low, binary32, ofBits, u
 use lib.Ieee as Ieee
 use lib.Ieee.Fits.{sub-fits, div-fits, and-i, eq→eqb, up-pos, round-is}
 use lib.Ieee.Order.{kept, drop}
-use Rattle.choices.specs.Choose.{abs, clamp}
+use Rattle.floats.specs.Choose.{abs, clamp}
 use Rattle.floats_laws.proofs.Between.{or-left, or-right}
 use Rattle.floats_laws.proofs.Ends.{not-above, from-zero}
 use Rattle.floats_laws.proofs.Gap.{one-number}

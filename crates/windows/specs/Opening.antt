@@ -4,7 +4,7 @@ use mathlib.Core.List.{List}
 use lib.ListN.{replicate}
 use lib.Ieee.{Float, le}
 use Rattle.floats.specs.Names.{f32, sub32, mul32, div32, nil, one}
-use Rattle.choices.specs.Choose.{clamp, abs}
+use Rattle.floats.specs.Choose.{clamp, abs}
 use Rattle.windows.specs.declared.Window.{Window}
 use Rattle.windows.specs.declared.Frame.{Frame}
 

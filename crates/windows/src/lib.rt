@@ -2,6 +2,10 @@
 ghost use mathlib.Core.Path.{_≡_};
 ghost use Rattle.windows.specs.Opening.{cubic, taperOf, opennessOf, emptyFrame};
 
+mod attenuation;
+
+pub use attenuation::attenuation_db;
+
 pub const MAX_PARTICLES: usize = 64;
 
 // One harmonic of one particle.

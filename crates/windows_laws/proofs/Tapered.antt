@@ -13,7 +13,7 @@ use lib.Ieee as Ieee
 use lib.Ieee.Bits.{is-false}
 use lib.Ieee.Fits.{mul-fits, sub-fits}
 use lib.Ieee.Scale.{finite}
-use Rattle.choices.specs.Choose.{clamp}
+use Rattle.floats.specs.Choose.{clamp}
 use Rattle.floats_laws.proofs.Bounds.{mul-mag, sub-mag}
 use Rattle.floats_laws.proofs.Choosing.{clamp-fits, clamp-least, clamp-most}
 use Rattle.floats_laws.proofs.Ends.{not-le→lt}
@@ -24,10 +24,10 @@ use Rattle.floats_laws.proofs.Mono.{le→signed}
 use Rattle.floats_laws.proofs.Numbers.{mul-number}
 use Rattle.floats_laws.proofs.Rising.{nought, sub-falls, mul-rises}
 use Rattle.floats_laws.proofs.Rules.{finite-number, le-trans}
-use Rattle.casts.proofs.Sat.{no}
+use Rattle.floats.proofs.Sat.{no}
 use Rattle.floats_laws.proofs.Units.{one as i, zero-fits, one-fits, unit}
-use Rattle.casts.proofs.Values.{fine, same-fin}
-use Rattle.lists.specs.Pick.{by-case}
+use Rattle.floats.proofs.Values.{fine, same-fin}
+use Rattle.sequences.specs.Pick.{by-case}
 use Rattle.windows_laws.proofs.UpperHalf.{two, three, above-half}
 use Rattle.windows.specs.Opening.{cubic, taperOf}
 

@@ -14,11 +14,11 @@ use lib.Ieee as Ieee
 use lib.Ieee.Exact.{HasValue, round-exact}
 use lib.Ieee.Fits.{down-pos, round-fits}
 use lib.Ieee.Scale.{finite, round-same}
-use Rattle.casts.specs.Convert.{apart, unitsIn, Nearest}
+use Rattle.floats.specs.Convert.{apart, unitsIn, Nearest}
 use Rattle.floats_laws.proofs.Keys.{mag-back}
 use Rattle.floats_laws.proofs.Mag.{Upto, upto-mag, within-upto, mag-le}
 use Rattle.floats_laws.proofs.Nearest.{round-nearest}
-use Rattle.casts.proofs.Pack.{pow-lt-back}
+use Rattle.floats.proofs.Pack.{pow-lt-back}
 use Rattle.floats_laws.proofs.Units.{one as i}
 
 -- ---- numbers

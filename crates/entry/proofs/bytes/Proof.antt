@@ -2,7 +2,7 @@
 use borrow.Author.Needs.{needs}
 use Prim.Native.Nat.{_-_}
 use mathlib.Core.Path.{_∙_}
-use Rattle.lists.specs.Table.{Filled, filled-none, filled-more, filled-all}
+use Rattle.sequences.specs.Table.{Filled, filled-none, filled-more, filled-all}
 use Rattle.entry.specs.Entry.{byteAt, bytesOf}
 use Rattle.entry.proofs.FrameBytes.{its-window}
 use Rattle.entry.proofs.bytes.Statement.{statement}

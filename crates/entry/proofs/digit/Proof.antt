@@ -1,6 +1,6 @@
 -- `digit` meets its contract: the tests in order.
 use Rattle.entry.specs.Entry.{digitOf}
-use Rattle.lists.specs.Pick.{cases}
+use Rattle.sequences.specs.Pick.{cases}
 use borrow.Author.Needs.{needs}
 use Rattle.entry.proofs.digit.Statement.{statement}
 use Rattle.entry.proofs.digit.Tie as tie

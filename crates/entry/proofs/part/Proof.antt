@@ -1,7 +1,7 @@
 -- `part` meets its contract: the tests in order.
 use borrow.Author.Needs.{needs}
 use Rattle.entry.specs.Entry.{partOf}
-use Rattle.lists.specs.Pick.{cases}
+use Rattle.sequences.specs.Pick.{cases}
 use Rattle.entry.proofs.part.Statement.{statement}
 use Rattle.entry.proofs.part.Tie as tie
 

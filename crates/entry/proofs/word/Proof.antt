@@ -1,6 +1,6 @@
 -- `word` meets its contract: one test.
 use Rattle.entry.specs.Entry.{wordOf}
-use Rattle.lists.specs.Pick.{took, skipped}
+use Rattle.sequences.specs.Pick.{took, skipped}
 use borrow.Author.Tests.{lt-ltb, le-ltb}
 use borrow.Author.Needs.{needs}
 use Rattle.entry.proofs.word.Statement.{statement}

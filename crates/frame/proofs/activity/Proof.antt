@@ -1,5 +1,5 @@
 -- `activity` meets its contract: the same operations, then the floor.
-use Rattle.lists.specs.Pick.{took, skipped}
+use Rattle.sequences.specs.Pick.{took, skipped}
 use Rattle.frame.specs.Frame.{activityOf, movedOf, stepOf}
 use borrow.Author.Needs.{needs}
 use Rattle.frame.proofs.activity.Statement.{statement}

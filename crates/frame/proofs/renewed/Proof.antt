@@ -1,5 +1,5 @@
 -- `renewed` meets its contract: what is left of the number is a difference of words.
-use Rattle.words.proofs.Words.{difference-is}
+use Rattle.floats.proofs.Words.{difference-is}
 use Rattle.frame.specs.Call.{renewedOf}
 use borrow.Author.Needs.{needs}
 use Rattle.frame.proofs.renewed.Statement.{statement}

@@ -1,6 +1,6 @@
 -- `take_frame` meets its contract: one test, and refusal 7 where it fails.
 use mathlib.Core.Path.{sym, _∙_}
-use Rattle.lists.specs.Pick.{took, skipped}
+use Rattle.sequences.specs.Pick.{took, skipped}
 use Rattle.frame.specs.Call.{framedOf}
 use borrow.Author.Needs.{needs}
 use Rattle.frame.proofs.take_frame.Statement.{statement}

@@ -3,13 +3,13 @@
 use mathlib.Core.Path.{sym, ap, _∙_}
 use mathlib.Core.Logic.{⊎-elim}
 use Prim.Native.Nat.{_-_, _≤_}
-use Rattle.lists.specs.Pick.{picked, passed}
-use Rattle.lists.specs.Walk.{Walked, counting, walked-none, walked-more, walked-all}
+use Rattle.sequences.specs.Pick.{picked, passed}
+use Rattle.sequences.specs.Walk.{Walked, counting, walked-none, walked-more, walked-all}
 use Rattle.pool.specs.Pool.{freeParticle}
-use Rattle.places.specs.Freed.{isFreed, sweepOne}
-use Rattle.places.specs.Shown.{shownOf}
-use Rattle.places.proofs.Pass.{Pass, pass-none, pass-read, pass-changed, pass-kept, pass-held, pass-shown}
-use Rattle.places.proofs.Swept.{due-is-freed, other-stays, free-shows-nothing}
+use Rattle.frame.specs.Freed.{isFreed, sweepOne}
+use Rattle.frame.specs.Shown.{shownOf}
+use Rattle.frame.proofs.Pass.{Pass, pass-none, pass-read, pass-changed, pass-kept, pass-held, pass-shown}
+use Rattle.frame.proofs.Swept.{due-is-freed, other-stays, free-shows-nothing}
 use Rattle.frame.specs.Call.{heldOf, freedOf, windowsBy, renewedOf, takenOf}
 use borrow.Author.Needs.{needs}
 use Rattle.frame.proofs.taken.Statement.{statement}

@@ -6,10 +6,10 @@ use native.Mathlib.Omega.{arith}
 use lib.ListN.{length, drop}
 use Rattle.script.proofs.Part.{rest}
 use Rattle.listing.specs.Printed.{textFrom}
-use Rattle.turns.proofs.Laws.{taken-left}
+use Rattle.listing.proofs.TurnLaws.{taken-left}
 use Rattle.listing.proofs.Laws.{Goes, stop, go-on}
 use Rattle.listing.proofs.Silence.{before-line, line-turn, line-low, line-few, line-within, line-goes}
-use Rattle.lines.proofs.Written.{written}
+use Rattle.listing.proofs.Written.{written}
 use Rattle.listing.proofs.list_fields.Statement.{statement}
 use Rattle.listing.proofs.list_fields.Tie as tie
 

@@ -4,7 +4,7 @@ use mathlib.Core.Path.{_≡_, _∙_}
 use native.Mathlib.Omega.{arith}
 use borrow.Author.Needs.{needs}
 use Rattle.listing.proofs.Late.{one-line, in-script, lines}
-use Rattle.lines.proofs.Written.{written}
+use Rattle.listing.proofs.Written.{written}
 use Rattle.listing.proofs.list_turns.Statement.{statement}
 use Rattle.listing.proofs.list_turns.Tie as tie
 

@@ -2,8 +2,8 @@
 use borrow.Author.Tests.{le-leb, lt-leb}
 use mathlib.Core.List.{append-nil}
 use Rattle.refusals.specs.declared.Refusal.the-variants.{Script}
-use Rattle.lines.specs.declared.Line.the-variants as L
-use Rattle.lines.proofs.Written.{written}
+use Rattle.listing.specs.declared.lines.Line.the-variants as L
+use Rattle.listing.proofs.Written.{written}
 use Rattle.listing.specs.Late.{printedLate}
 use borrow.Author.Needs.{needs}
 use Rattle.listing.proofs.listing.Statement.{statement}

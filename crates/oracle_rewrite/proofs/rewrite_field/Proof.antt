@@ -1,8 +1,8 @@
 -- `rewrite_field` meets its contract: a case for each reading.
 use mathlib.Core.Path.{refl, ap}
 use borrow.Author.Needs.{needs}
-use Rattle.writer.specs.declared.Written.{Written}
-use Rattle.writer_laws.specs.InARow.{countAfter, bytesAfter}
+use Rattle.script_writer.specs.declared.Written.{Written}
+use Rattle.script_writer_laws.specs.InARow.{countAfter, bytesAfter}
 use Rattle.oracle_rewrite.proofs.rewrite_field.Statement.{statement}
 use Rattle.oracle_rewrite.proofs.rewrite_field.Tie as tie
 

@@ -2,8 +2,8 @@
 use mathlib.Core.Path.{refl}
 use borrow.Author.Needs.{needs}
 use borrow.Author.Tests.{le-leb, lt-leb}
-use Rattle.script_reading.specs.Reading.{readingOf}
-use Rattle.writer_laws.specs.InARow.{countAfter, bytesAfter}
+use Rattle.script.specs.Reading.{readingOf}
+use Rattle.script_writer_laws.specs.InARow.{countAfter, bytesAfter}
 use Rattle.oracle_rewrite.proofs.rk_probe_rewritten.Statement.{statement}
 use Rattle.oracle_rewrite.proofs.rk_probe_rewritten.Tie as tie
 

@@ -1,6 +1,6 @@
 -- `retire_all` meets its contract: the loop maps the places one after the other.
 use Prim.Native.Nat.{_-_}
-use Rattle.lists.specs.Upto.{Mapped, mapped-none, mapped-more, mapped-all}
+use Rattle.sequences.specs.Upto.{Mapped, mapped-none, mapped-more, mapped-all}
 use Rattle.pool.specs.Pool.{retireOne}
 use borrow.Author.Needs.{needs}
 use Rattle.pool.proofs.retire_all.Statement.{statement}

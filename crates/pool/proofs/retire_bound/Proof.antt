@@ -1,6 +1,6 @@
 -- `retire_bound` meets its contract: the loop maps the places one after the other.
 use Prim.Native.Nat.{_-_}
-use Rattle.lists.specs.Upto.{Mapped, mapped-none, mapped-more, mapped-all}
+use Rattle.sequences.specs.Upto.{Mapped, mapped-none, mapped-more, mapped-all}
 use Rattle.pool.specs.Pool.{retireBoundOne}
 use borrow.Author.Needs.{needs}
 use Rattle.pool.proofs.retire_bound.Statement.{statement}

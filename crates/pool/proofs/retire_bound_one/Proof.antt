@@ -1,6 +1,6 @@
 -- `retire_bound_one` meets its contract: two tests.
 use mathlib.Core.Path.{refl}
-use Rattle.lists.specs.Pick.{took, skipped}
+use Rattle.sequences.specs.Pick.{took, skipped}
 use borrow.Author.Tests.{eq-eqb, ne-eqb}
 use Rattle.pool.specs.Pool.{retireBoundOne}
 use borrow.Author.Needs.{needs}

@@ -1,6 +1,6 @@
 -- `retire_one` meets its contract: one test.
 use mathlib.Core.Path.{refl}
-use Rattle.lists.specs.Pick.{took, skipped}
+use Rattle.sequences.specs.Pick.{took, skipped}
 use Rattle.pool.specs.Pool.{retireOne}
 use borrow.Author.Needs.{needs}
 use Rattle.pool.proofs.retire_one.Statement.{statement}

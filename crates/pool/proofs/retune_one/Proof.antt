@@ -1,6 +1,6 @@
 -- `retune_one` meets its contract: two tests.
 use mathlib.Core.Path.{refl}
-use Rattle.lists.specs.Pick.{took, skipped}
+use Rattle.sequences.specs.Pick.{took, skipped}
 use borrow.Author.Tests.{eq-eqb, ne-eqb}
 use Rattle.pool.specs.Pool.{retuneOne, retunedOf}
 use Rattle.pool.proofs.retune_one.Statement.{statement}

@@ -1,5 +1,5 @@
 -- `checked` meets its contract: one test.
-use Rattle.lists.specs.Pick.{picked, passed}
+use Rattle.sequences.specs.Pick.{picked, passed}
 use borrow.Author.Tests.{lt-ltb, le-ltb}
 use Rattle.settings.specs.Settings.{checkedOf}
 use Rattle.settings.proofs.checked.Statement.{statement}

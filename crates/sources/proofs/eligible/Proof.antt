@@ -1,6 +1,6 @@
 -- `eligible` meets its contract: one test after the other.
 use mathlib.Core.Path.{refl, sym, _∙_}
-use Rattle.lists.specs.Pick.{took, skipped}
+use Rattle.sequences.specs.Pick.{took, skipped}
 use Rattle.sources.specs.Sources.{isEligible}
 use borrow.Author.Needs.{needs}
 use Rattle.sources.proofs.eligible.Statement.{statement}

@@ -1,6 +1,6 @@
 -- `pitched` meets its contract: one test.
 use mathlib.Core.Path.{refl, sym, _∙_}
-use Rattle.lists.specs.Pick.{took, skipped}
+use Rattle.sequences.specs.Pick.{took, skipped}
 use Rattle.sources.specs.Sources.{isPitched}
 use borrow.Author.Needs.{needs}
 use Rattle.sources.proofs.pitched.Statement.{statement}

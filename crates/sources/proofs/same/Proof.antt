@@ -1,5 +1,5 @@
 -- `same` meets its contract: field by field.
-use Rattle.lists.specs.Pick.{cases}
+use Rattle.sequences.specs.Pick.{cases}
 use Rattle.sources.specs.Sources.{same}
 use borrow.Author.Needs.{needs}
 use Rattle.sources.proofs.same.Statement.{statement}

@@ -1,5 +1,5 @@
 -- `larger` meets its contract: one test.
-use Rattle.lists.specs.Pick.{picked, passed}
+use Rattle.sequences.specs.Pick.{picked, passed}
 use borrow.Author.Tests.{lt-ltb, le-ltb}
 use Rattle.timing.specs.Streams.{larger}
 use Rattle.timing.proofs.larger.Statement.{statement}

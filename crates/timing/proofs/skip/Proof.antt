@@ -1,5 +1,5 @@
 -- `skip` meets its contract: one test.
-use Rattle.lists.specs.Pick.{picked, passed}
+use Rattle.sequences.specs.Pick.{picked, passed}
 use Rattle.timing.specs.Streams.{skippedOf}
 use borrow.Author.Needs.{needs}
 use Rattle.timing.proofs.skip.Statement.{statement}

@@ -1,6 +1,6 @@
 -- `digit` meets its contract: its tests are the definition's, in order.
 use native.Mathlib.Omega.{arith}
-use Rattle.lists.specs.Pick.{cases}
+use Rattle.sequences.specs.Pick.{cases}
 use Rattle.vectors.specs.Line.{digitOf}
 use borrow.Author.Needs.{needs}
 use Rattle.vectors.proofs.digit.Statement.{statement}

@@ -6,7 +6,7 @@ use mathlib.Core.Path.{_≡_, ap, _∙_}
 use lib.Dec.{lit<}
 use lib.ListN.{getD}
 use lib.Pow.{pow-add, pow-mono, pow-pos}
-use Rattle.lists.specs.Times.{times, times-none, times-more}
+use Rattle.sequences.specs.Times.{times, times-none, times-more}
 use Rattle.vectors.specs.Line.{digitOf, numberAt}
 use Rattle.vectors.proofs.number.Statement.{statement}
 use Rattle.vectors.proofs.number.Tie as tie

@@ -2,7 +2,7 @@ use mathlib.Core.Path.{_≡_}
 use Prim.Native.Nat.{ℕ, _+_, _-_, _*_, _/_, _%_, _≤_, _<_}
 use native.Mathlib.Nat.{le-trans}
 use native.Mathlib.Omega.{arith}
-use Rattle.parabolas.specs.Parabolas.{topOf, slopeOf, bendOf}
+use Rattle.elementary.specs.Parabolas.{topOf, slopeOf, bendOf}
 use Rattle.elementary.specs.Log2.{fallOf, cellOf, fractionOf}
 use Rattle.elementary.proofs.LogCells.{top-le, fall-le, inner-le, bend-le, cell, back, fraction-lt}
 use borrow.Author.Needs.{needs}

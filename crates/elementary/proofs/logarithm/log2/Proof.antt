@@ -7,7 +7,7 @@ use lib.Ieee.Bits.{ofBits-toBits}
 use lib.Ieee.Positive.{positive}
 use denote.Floats.{passes}
 use borrow.Author.Needs.{needs}
-use Rattle.casts.proofs.Facts.{eq-self}
+use Rattle.floats.proofs.Facts.{eq-self}
 use Rattle.floats_laws.proofs.PositiveBits.{pattern-positive}
 use Rattle.elementary.specs.Log2.{fractionOf, joinedOf, logOf}
 use Rattle.elementary.proofs.Rungs.{rung-normal, digits-normal}

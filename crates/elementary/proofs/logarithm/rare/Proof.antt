@@ -4,7 +4,7 @@ use lib.Dec.{T}
 use lib.Ieee.{binary32, fits, div, neg, ofBits, toBits}
 use lib.Ieee.Positive.{positive}
 use denote.Floats.{passes}
-use Rattle.casts.proofs.Facts.{ne-self, no-nan}
+use Rattle.floats.proofs.Facts.{ne-self, no-nan}
 use Rattle.floats_laws.proofs.PositiveBits.{positive-above, positive-under}
 use Rattle.elementary.specs.Log2.{logOf, log2Of}
 use Rattle.elementary.proofs.Rungs.{Parts, parts}

@@ -7,7 +7,7 @@ use native.Mathlib.Nat.{le-trans, mul-le-mul, mul-add, add-mul, suc-mul, not-le-
 use native.Mathlib.Omega.{arith}
 use borrow.Author.Needs.{needs}
 use Rattle.floats_laws.proofs.Naturals.{le-or-lt}
-use Rattle.words.proofs.Words.{product-fits}
+use Rattle.floats.proofs.Words.{product-fits}
 use Rattle.elementary.proofs.Squares.{settled, root-is}
 use Rattle.elementary.proofs.root.nearest_root.Statement.{statement}
 use Rattle.elementary.proofs.root.nearest_root.Tie as tie

@@ -6,8 +6,8 @@ use lib.Ieee.{binary32, fits, div, ofBits, toBits}
 use lib.Ieee.Positive.{positive}
 use denote.Floats.{passes}
 use borrow.Author.Needs.{needs}
-use Rattle.casts.proofs.Facts.{ne-self, no-nan}
-use Rattle.casts.proofs.Narrow.{no-nan as no-nan-bits}
+use Rattle.floats.proofs.Facts.{ne-self, no-nan}
+use Rattle.floats.proofs.Narrow.{no-nan as no-nan-bits}
 use Rattle.floats_laws.proofs.PositiveBits.{positive-above, positive-under}
 use Rattle.elementary.specs.Sqrt.{rootBits, sqrtOf}
 use Rattle.elementary.proofs.RootNearest.{Scaled, scaled, sqrt-is}

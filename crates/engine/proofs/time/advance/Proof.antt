@@ -2,15 +2,15 @@
 use native.Mathlib.Omega.{arith}
 use Prim.Native.Nat.{ℕ, _≤_, _<_, _+_, _-_, _^_}
 use mathlib.Core.Path.{_≡_, refl, ap, _∙_}
-use Rattle.lists.specs.Pick.{took, skipped}
-use Rattle.lists.specs.Times.{iterate, iterate-none, iterate-more}
+use Rattle.sequences.specs.Pick.{took, skipped}
+use Rattle.sequences.specs.Times.{iterate, iterate-none, iterate-more}
 use borrow.Author.Tests.{le-leb, lt-leb}
-use Rattle.delivery.specs.Sample.{steppedOf}
+use Rattle.engine.specs.Sample.{steppedOf}
 use mathlib.Core.Logic.{⊎-elim}
 use Rattle.state.specs.State.{withClock}
-use Rattle.waiting.proofs.NothingDue.{waited-after}
-use Rattle.waiting.proofs.Waits.{waited-few}
-use Rattle.waiting.proofs.Delivered.{by-lanes, by-cloud, by-none}
+use Rattle.engine.proofs.NothingDue.{waited-after}
+use Rattle.engine.proofs.Waits.{waited-few}
+use Rattle.engine.proofs.Delivered.{by-lanes, by-cloud, by-none}
 use Rattle.engine.specs.Advance.{advancedOf}
 use Rattle.state.specs.State.{taken}
 use borrow.Author.Needs.{needs}

@@ -6,7 +6,7 @@ use mathlib.Core.Path.{_≡_, sym, ap, _∙_}
 use mathlib.Core.Bool.{false}
 use lib.Count.{leadingZeros}
 use lib.Ieee.{binary64, ofBits, round}
-use Rattle.casts.proofs.Narrow.{no-nan}
+use Rattle.floats.proofs.Narrow.{no-nan}
 use Rattle.floats.proofs.Count.{zeros-from, zeros-to, moved-under, subnormal, normal, nothing}
 use Rattle.floats.proofs.modulo.assembled.Statement.{statement}
 use Rattle.floats.proofs.modulo.assembled.Tie as tie

@@ -7,7 +7,7 @@ use lib.Ieee.{Float, binary32, ofBits, div, isNan, fits}
 use lib.Ieee.Compare.{differs-from-itself}
 use lib.Ieee.Fits.{and-i, rem-fits}
 use denote.Floats.{passes}
-use Rattle.casts.proofs.Facts.{no-nan}
+use Rattle.floats.proofs.Facts.{no-nan}
 use Rattle.floats.proofs.Rem.{rem-inside}
 use Rattle.floats.proofs.Once.{rem-once}
 use Rattle.floats.proofs.remainder.rem32.Statement.{statement}

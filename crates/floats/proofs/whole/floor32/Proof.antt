@@ -8,7 +8,7 @@ use lib.Ieee.Compare.{differs-from-itself}
 use lib.Ieee.Fits.{and-i, fits-widens}
 use denote.Floats.{passes}
 use Rattle.floats.specs.Whole.{floor}
-use Rattle.casts.proofs.Facts.{no-nan}
+use Rattle.floats.proofs.Facts.{no-nan}
 use Rattle.floats.proofs.Floor.{floor-widens, floor-fits, floor-number}
 use Rattle.floats.proofs.whole.floor32.Statement.{statement}
 use Rattle.floats.proofs.whole.floor32.Tie as tie

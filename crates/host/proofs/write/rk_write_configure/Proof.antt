@@ -1,5 +1,5 @@
 -- `rk_write_configure` meets its contract: the settings of these numbers.
-use Rattle.fields.specs.declared.Field.the-variants as F
+use Rattle.script.specs.declared.fields.Field.the-variants as F
 use Rattle.host.specs.Write.{configFrom}
 use Rattle.host.proofs.Told.{told-by}
 use borrow.Author.Needs.{needs}

@@ -5,8 +5,8 @@ use mathlib.Core.List.{List}
 use native.Mathlib.Omega.{arith}
 use lib.Ieee.{Float}
 use lib.ListN.{length}
-use Rattle.bin_tables.specs.Logs.{lawfulLogs}
-use Rattle.turns.specs.Turns.{turnsOf}
+use Rattle.mask_gains.specs.Logs.{lawfulLogs}
+use Rattle.listing.specs.Turns.{turnsOf}
 use Rattle.mask_files.specs.Records.{filedOf}
 use Rattle.mask_files.specs.Masks.{binsOf, logsFor, placedOf}
 use Rattle.mask_files.proofs.Logs.{logs-lawful, logs-count, prepared-is}

@@ -2,9 +2,9 @@
 use mathlib.Core.Path.{refl, ap, _∙_}
 use native.Mathlib.Omega.{arith}
 use Rattle.script.proofs.Part.{rest}
-use Rattle.lines.specs.declared.Line.the-variants as L
-use Rattle.turns.specs.declared.Until.the-variants as U
-use Rattle.turns.specs.Reaching.{reachedOf}
+use Rattle.listing.specs.declared.lines.Line.the-variants as L
+use Rattle.listing.specs.declared.turns.Until.the-variants as U
+use Rattle.listing.specs.Reaching.{reachedOf}
 use Rattle.mask_files.proofs.Steps.{reach-fits}
 use Rattle.mask_files.proofs.Ways.{frame-step, last-step}
 use borrow.Author.Needs.{needs}

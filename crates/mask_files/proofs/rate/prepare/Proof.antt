@@ -1,7 +1,7 @@
 -- `prepare` meets its contract: the bin table of the script's rate.
 use mathlib.Core.Path.{ap, _∙_}
 use lib.Ieee.{Float}
-use Rattle.bin_tables.specs.Bins.{preparedOf}
+use Rattle.mask_gains.specs.Bins.{preparedOf}
 use borrow.Author.Needs.{needs}
 use Rattle.mask_files.proofs.rate.prepare.Statement.{statement}
 use Rattle.mask_files.proofs.rate.prepare.Tie as tie

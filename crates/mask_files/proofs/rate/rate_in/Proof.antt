@@ -1,6 +1,6 @@
 -- `rate_in` meets its contract: a case for each field.
 use mathlib.Core.Path.{refl, sym, _∙_}
-use Rattle.lists.specs.Pick.{took, skipped}
+use Rattle.sequences.specs.Pick.{took, skipped}
 use borrow.Author.Needs.{needs}
 use Rattle.mask_files.proofs.rate.rate_in.Statement.{statement}
 use Rattle.mask_files.proofs.rate.rate_in.Tie as tie

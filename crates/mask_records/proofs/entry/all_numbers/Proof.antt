@@ -2,7 +2,7 @@
 use native.Mathlib.Numerals.{add-one}
 use lib.ListN.{length, getD}
 use lib.Ieee.{nan}
-use Rattle.lists.specs.All.{all}
+use Rattle.sequences.specs.All.{all}
 use Rattle.mask_records.specs.Entries.{attenuationOf, isNumber}
 use native.Mathlib.Omega.{arith}
 use Prim.Native.Nat.{ℕ, _≤_, _-_}

@@ -1,5 +1,5 @@
 -- `entry_for` meets its contract: a tenth is at most 600, so that the table has it.
-use Rattle.decibels.proofs.Nearest.{tenths-most}
+use Rattle.mask_records.proofs.Nearest.{tenths-most}
 use native.Mathlib.Omega.{arith}
 use borrow.Author.Needs.{needs}
 use Rattle.mask_records.proofs.entry.entry_for.Statement.{statement}

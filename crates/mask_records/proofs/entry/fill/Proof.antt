@@ -1,7 +1,7 @@
 -- `fill` meets its contract: an entry for each bin.
 use lib.ListN.{length, getD}
 use lib.Ieee.{nan}
-use Rattle.lists.specs.Table.{Filled, filled-none, filled-more, filled-all}
+use Rattle.sequences.specs.Table.{Filled, filled-none, filled-more, filled-all}
 use Rattle.mask_records.specs.Entries.{attenuationOf, entryFor}
 use Prim.Native.Nat.{ℕ, _-_}
 use borrow.Author.Needs.{needs}

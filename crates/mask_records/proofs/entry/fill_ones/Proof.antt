@@ -1,6 +1,6 @@
 -- `fill_ones` meets its contract: the same at each place.
 use lib.ListN.{length}
-use Rattle.lists.specs.Table.{Filled, filled-none, filled-more, filled-all}
+use Rattle.sequences.specs.Table.{Filled, filled-none, filled-more, filled-all}
 use Prim.Native.Nat.{ℕ, _-_}
 use mathlib.Core.Path.{refl}
 use borrow.Author.Needs.{needs}

@@ -1,7 +1,7 @@
 -- `hand_over` meets its contract: a copy.
 use lib.ListN.{length, getD}
 use lib.Ieee.{nan}
-use Rattle.lists.specs.Table.{Filled, filled-none, filled-more, filled-all, table-own}
+use Rattle.sequences.specs.Table.{Filled, filled-none, filled-more, filled-all, table-own}
 use Prim.Native.Nat.{ℕ, _-_}
 use mathlib.Core.Path.{refl, _∙_}
 use borrow.Author.Needs.{needs}

@@ -1,5 +1,5 @@
 -- `is_number` meets its contract: only a NaN differs from itself.
-use Rattle.casts.proofs.Facts.{eq-self}
+use Rattle.floats.proofs.Facts.{eq-self}
 use Rattle.mask_records.proofs.entry.is_number.Statement.{statement}
 use Rattle.mask_records.proofs.entry.is_number.Tie as tie
 

@@ -1,7 +1,7 @@
 -- `all_entries` meets its contract: one search a bin.
 use native.Mathlib.Numerals.{add-one}
-use Rattle.lists.specs.All.{all}
-use Rattle.decibels.specs.Entries.{isEntry}
+use Rattle.sequences.specs.All.{all}
+use Rattle.mask_records.specs.Decibels.{isEntry}
 use Rattle.mask_records.specs.Found.{entryIn}
 use native.Mathlib.Omega.{arith}
 use Prim.Native.Nat.{ℕ, _≤_, _-_}

@@ -1,6 +1,6 @@
 -- `hand_out` meets its contract: an entry for each place.
 use lib.ListN.{length}
-use Rattle.lists.specs.Table.{Filled, filled-none, filled-more, filled-all}
+use Rattle.sequences.specs.Table.{Filled, filled-none, filled-more, filled-all}
 use Rattle.mask_records.specs.Found.{entryIn}
 use Prim.Native.Nat.{_-_}
 use mathlib.Core.Path.{refl}

@@ -1,6 +1,6 @@
 -- `quiet` meets its contract: the first n of the places.
 use lib.Seq.{length-take-le}
-use Rattle.lists.specs.Table.{table}
+use Rattle.sequences.specs.Table.{table}
 use Rattle.mask_records.specs.Placed.{placedOf}
 use native.Mathlib.Omega.{arith}
 use Prim.Native.Nat.{ℕ}

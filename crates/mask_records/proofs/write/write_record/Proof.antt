@@ -1,6 +1,6 @@
 -- `write_record` meets its contract: a test for each refusal in order, then the rule of depth and activity.
 use borrow.Author.Tests.{lt-ltb, le-ltb, eq-eqb, ne-eqb}
-use Rattle.lists.specs.Pick.{took, skipped}
+use Rattle.sequences.specs.Pick.{took, skipped}
 use Rattle.mask_records.specs.Written.{writtenOf}
 use Rattle.mask_records.proofs.Ways.{quiet-written, loud-written}
 use mathlib.Core.Path.{refl, sym, _∙_}

@@ -5,7 +5,7 @@ use native.Mathlib.Nat.{mul-le-mul}
 use native.Mathlib.Omega.{arith}
 use borrow.Author.Needs.{needs}
 use borrow.Author.Tests.{le-ltb}
-use Rattle.lists.specs.Pick.{cases, passed}
+use Rattle.sequences.specs.Pick.{cases, passed}
 use Rattle.picture.specs.Rows.{firstBin}
 use Rattle.picture.proofs.rows.first_bin.Statement.{statement}
 use Rattle.picture.proofs.rows.first_bin.Tie as tie

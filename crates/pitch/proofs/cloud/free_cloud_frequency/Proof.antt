@@ -1,5 +1,5 @@
 -- `free_cloud_frequency` meets its contract: the callees' answers, put together; the logarithm of 20 is computed once.
-use Rattle.registers.proofs.Logs.{log-of-min}
+use Rattle.pitch.proofs.Logs.{log-of-min}
 use Rattle.pitch.specs.Cloud.{frequencyOf}
 use borrow.Author.Needs.{needs}
 use Rattle.pitch.proofs.cloud.free_cloud_frequency.Statement.{statement}

@@ -1,5 +1,5 @@
 -- `offset` meets its contract: one test.
-use Rattle.lists.specs.Pick.{took, cases}
+use Rattle.sequences.specs.Pick.{took, cases}
 use Rattle.pitch.specs.Cloud.{offsetOf}
 use borrow.Author.Needs.{needs}
 use Rattle.pitch.proofs.cloud.offset.Statement.{statement}

@@ -1,5 +1,5 @@
 -- `ramp` meets its contract: the logarithm of 440 is computed once.
-use Rattle.registers.proofs.Logs.{log-of-full}
+use Rattle.pitch.proofs.Logs.{log-of-full}
 use Rattle.pitch.specs.Cloud.{rampOf}
 use Rattle.pitch.proofs.cloud.ramp.Statement.{statement}
 use Rattle.pitch.proofs.cloud.ramp.Tie as tie

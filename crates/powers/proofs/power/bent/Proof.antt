@@ -1,7 +1,7 @@
 use mathlib.Core.Path.{refl}
 use native.Mathlib.Nat.{mul-le-mul-right, le-of-lt, mul-comm, div-le-of-le-mul}
 use native.Mathlib.Omega.{arith}
-use Rattle.words.proofs.Words.{product-fits}
+use Rattle.floats.proofs.Words.{product-fits}
 use Rattle.powers.proofs.power.bent.Statement.{statement}
 use Rattle.powers.proofs.power.bent.Tie as tie
 

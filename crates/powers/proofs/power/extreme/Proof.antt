@@ -5,7 +5,7 @@ use native.Mathlib.Nat.{div-le-self, div-eq-of-lt, lt-of-lt-of-le, le-of-lt}
 use native.Mathlib.Omega.{arith}
 use lib.Pow.{pow-mono}
 use lib.Ieee.{binary32, ofBits}
-use Rattle.casts.proofs.Narrow.{no-nan}
+use Rattle.floats.proofs.Narrow.{no-nan}
 use Rattle.powers.specs.Placed.{placed32}
 use Rattle.powers.proofs.PlacedAt.{placed-over, placed-below}
 use Rattle.powers.proofs.power.extreme.Statement.{statement}

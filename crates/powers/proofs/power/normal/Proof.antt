@@ -3,7 +3,7 @@ use mathlib.Core.Path.{sym, ap}
 use Prim.Native.Nat.{ℕ, _+_, _*_, _/_, _≤_, _<_}
 use native.Mathlib.Omega.{arith}
 use lib.Ieee.{binary32, ofBits}
-use Rattle.casts.proofs.Narrow.{no-nan}
+use Rattle.floats.proofs.Narrow.{no-nan}
 use Rattle.powers.proofs.PlacedAt.{placed-above}
 use Rattle.powers.proofs.power.normal.Statement.{statement}
 use Rattle.powers.proofs.power.normal.Tie as tie

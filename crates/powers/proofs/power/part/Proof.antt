@@ -1,6 +1,6 @@
 use mathlib.Core.Path.{refl}
 use native.Mathlib.Omega.{arith}
-use Rattle.words.proofs.Words.{product-fits}
+use Rattle.floats.proofs.Words.{product-fits}
 use Rattle.powers.proofs.power.part.Statement.{statement}
 use Rattle.powers.proofs.power.part.Tie as tie
 

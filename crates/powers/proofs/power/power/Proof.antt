@@ -7,8 +7,8 @@ use lib.Ieee.{Float, binary32, binary64, fits, isNan, add, mul, lt, neg, ofBits}
 use lib.Ieee.Fits.{fits-widens, and-i}
 use lib.Ieee.Scale.{finite}
 use denote.Floats.{passes}
-use Rattle.casts.proofs.Facts.{ne-self, no-nan}
-use Rattle.casts.proofs.Narrow as Narrow
+use Rattle.floats.proofs.Facts.{ne-self, no-nan}
+use Rattle.floats.proofs.Narrow as Narrow
 use Rattle.floats_laws.proofs.Numbers.{lt-left-number, inside-finite, mul-number}
 use Rattle.floats_laws.proofs.Rules.{add-number}
 use Rattle.powers.specs.Power.{power, lifted}

@@ -1,8 +1,8 @@
 -- `kind_of` meets its contract: the table by its index.
 use mathlib.Core.Path.{sym}
 use lib.ListN.{List·getD-eq-default}
-use Rattle.fields.specs.Table.{kinds}
-use Rattle.fields.specs.declared.Kind.the-variants.{Unknown}
+use Rattle.script.specs.Table.{kinds}
+use Rattle.script.specs.declared.fields.Kind.the-variants.{Unknown}
 use borrow.Author.Needs.{needs}
 use Rattle.script.proofs.kinds.kind_of.Statement.{statement}
 use Rattle.script.proofs.kinds.kind_of.Tie as tie

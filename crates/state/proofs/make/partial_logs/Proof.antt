@@ -1,7 +1,7 @@
 -- `partial_logs` meets its contract: the loop fills the table.
 use Prim.Native.Nat.{_+_, _-_}
 use mathlib.Core.Path.{ap, _∙_}
-use Rattle.lists.specs.Table.{Filled, filled-none, filled-more, filled-all}
+use Rattle.sequences.specs.Table.{Filled, filled-none, filled-more, filled-all}
 use lib.Ieee.{binary32, ofInt}
 use Rattle.state.specs.Make.{partialLogs}
 use Rattle.elementary.specs.Log2.{log2Of}

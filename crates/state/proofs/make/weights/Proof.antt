@@ -1,6 +1,6 @@
 -- `weights` meets its contract: the loop fills the table.
 use Prim.Native.Nat.{_-_}
-use Rattle.lists.specs.Table.{Filled, filled-none, filled-more, filled-all}
+use Rattle.sequences.specs.Table.{Filled, filled-none, filled-more, filled-all}
 use lib.Ieee.{neg, nan}
 use Rattle.state.specs.Make.{weightsOf}
 use lib.ListN.{getD}

@@ -1,2 +1,0 @@
-pub mod Birth
-pub mod Arrival

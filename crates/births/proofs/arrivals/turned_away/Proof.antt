@@ -1,0 +1,16 @@
+-- `turned_away` meets its contract: a free particle, and what it was handed.
+use mathlib.Core.Path.{ap}
+use Rattle.pool.specs.declared.Particle.{Particle}
+use Rattle.births.specs.declared.arrivals.Arrival.{Arrival}
+use borrow.Author.Needs.{needs}
+use Rattle.births.proofs.arrivals.turned_away.Statement.{statement}
+use Rattle.births.proofs.arrivals.turned_away.Tie as tie
+
+free-particle-requires : tie.Need-free-particle-requires
+free-particle-requires c κs = search needs
+
+returns : tie.Need-returns
+returns c = rw (c .free-particle .ensures)
+
+pub turned-away-spec : {M : Type 1} → statement M
+turned-away-spec = tie.close (tie.spec free-particle-requires returns)

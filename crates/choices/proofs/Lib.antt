@@ -1,2 +1,0 @@
-pub mod Rounded
-pub mod Sign

@@ -1,3 +1,0 @@
-pub mod Ruled
-pub mod Exact
-pub mod Nearest

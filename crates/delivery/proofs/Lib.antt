@@ -1,2 +1,0 @@
-pub mod Tries
-pub mod Untouched

@@ -1,3 +1,0 @@
-pub mod Alpha
-pub mod Clocks
-pub mod Opportunities

@@ -1,1 +1,0 @@
-// Theorems about samples: how far phase, offset and the Cloud's opportunity can go in 2^40 of them. No code.

@@ -1,0 +1,4 @@
+pub mod Blank
+pub mod Harmonic
+pub mod Pass
+pub mod Swept

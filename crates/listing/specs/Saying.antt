@@ -1,0 +1,21 @@
+-- What a turn says, apart from the run. Definitions only.
+use Prim.Native.Nat.{ℕ}
+use mathlib.Core.Bool.{Bool, cond}
+use lib.Dec.{eqb}
+use Rattle.refusals.specs.declared.Refusal.{Refusal}
+use Rattle.script_steps.specs.declared.Reply.{Reply}
+use Rattle.script_steps.specs.declared.Reply.the-variants as R
+use Rattle.listing.specs.declared.lines.Line.{Line}
+use Rattle.listing.specs.declared.lines.Line.the-variants as L
+use Rattle.listing.specs.declared.turns.Said.{Said}
+
+abbrev pub saysOf : Line → ℕ → Said
+saysOf line k = record { line = line; taken = k }
+
+abbrev pub refusalSaid : Bool → ℕ → ℕ → Refusal → Said
+refusalSaid first n k r = cond first (saysOf (L.Bad n r) 0) (saysOf (L.Refused n r) k)
+
+unfoldable pub saidOf : ℕ → ℕ → Reply → Said
+saidOf n k R.Quiet = saysOf L.Nothing k
+saidOf n k (R.Refused r) = refusalSaid (eqb n 1) n k r
+saidOf n k (R.Framed v) = saysOf (L.Frame n v) k

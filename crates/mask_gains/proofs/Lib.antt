@@ -1,0 +1,9 @@
+pub mod Cases
+pub mod Closed
+pub mod Shaped
+pub mod Scanned
+pub mod Halves
+pub mod Opens
+pub mod Ordered
+pub mod Raising
+pub mod Ranges

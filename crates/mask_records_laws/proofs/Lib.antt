@@ -1,4 +1,0 @@
-pub mod ReadBack
-pub mod Frames
-pub mod WriteBack
-pub mod Files

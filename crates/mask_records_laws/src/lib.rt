@@ -1,1 +1,0 @@
-// Laws of mask files, proved on their definitions: what is written is read back.

@@ -1,3 +1,0 @@
-pub mod Opened
-pub mod Search
-pub mod Walk

@@ -1,0 +1,56 @@
+-- Settings and weights from plain numbers, a due stream after one sample, harmonics as one number. Definitions only.
+use Prim.Native.Nat.{ℕ, _+_, _*_, _%_, _^_}
+use mathlib.Core.Bool.{Bool, true, false}
+use mathlib.Core.List.{List}
+use lib.Dec.{eqb}
+use lib.Ieee.{Float, binary32, ofBits, lt}
+use lib.ListN.{getD}
+use Rattle.sequences.specs.Pick.{pick}
+use Rattle.sequences.specs.Table.{table}
+use Rattle.draws.specs.Draws.{mixOf}
+use Rattle.settings.specs.declared.Config.{Config}
+use Rattle.settings.specs.declared.Shape.{Shape}
+use Rattle.settings.specs.declared.Shape.the-variants.{Sprinkle, Cloud}
+use Rattle.settings.specs.declared.Direction.{Direction}
+use Rattle.settings.specs.declared.Direction.the-variants.{Forward, Reverse, Alternate}
+use Rattle.timing.specs.declared.SprinkleStream.{SprinkleStream}
+use Rattle.timing.specs.Streams.{movedOf}
+
+unfoldable pub shapeOf : ℕ → Shape
+shapeOf n = pick (eqb n 0) Sprinkle Cloud
+
+unfoldable pub directionOf : ℕ → Direction
+directionOf n = pick (eqb n 0) Forward (pick (eqb n 1) Reverse Alternate)
+
+unfoldable pub configOf : ℕ → ℕ → Float → Float → Float → ℕ → ℕ → Float → Float → Float → Config
+configOf kind way rate size turn hop count rolloff attack release =
+    record {
+      enabled = true;
+      shape = shapeOf kind;
+      direction = directionOf way;
+      «rate_hz» = rate;
+      «size_octaves» = size;
+      phase = turn;
+      scheduled = true;
+      sync = false;
+      «hop_samples» = hop;
+      partials = count;
+      «partial_rolloff_db» = rolloff;
+      «attack_ms» = attack;
+      «release_ms» = release;
+    }
+
+-- a sample tries each lane at most twice
+unfoldable pub sampledOf : ℕ → ℕ → Float → Bool → SprinkleStream
+sampledOf index lane reference sync = let s = movedOf index lane reference sync in pick (lt reference (s .next)) s (movedOf (s .index) lane reference sync)
+
+-- weights of any kind, by a seed
+unfoldable pub weightOf : ℕ → ℕ → Float
+weightOf seed i = ofBits binary32 (mixOf ((seed + i) % 2 ^ 64) % 4294967296)
+
+unfoldable pub weightsOf : ℕ → List Float
+weightsOf seed = table 24 (weightOf seed)
+
+-- three harmonics as one number
+unfoldable pub packedOf : List ℕ → ℕ
+packedOf picks = getD picks 0 0 + getD picks 1 0 * 256 + getD picks 2 0 * 65536

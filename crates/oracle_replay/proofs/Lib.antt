@@ -1,0 +1,3 @@
+pub mod Left
+mod Joined
+pub mod Whole

@@ -1,0 +1,3 @@
+pub mod Replay
+pub mod Numbers
+pub mod State

@@ -1,0 +1,114 @@
+-- The parts of the state as numbers, in the order of `oracle state`: floats by their bits with one NaN, flags and choices as 0, 1, 2, and "none" as all ones. Definitions only.
+use Prim.Native.Nat.{ℕ}
+use mathlib.Core.Bool.{Bool}
+use mathlib.Core.List.{List, [], _∷_}
+use lib.Dec.{eqb}
+use lib.Ieee.{Float, binary32, binary64, toBits}
+use lib.ListN.{getD}
+use Rattle.sequences.specs.Pick.{pick}
+use Rattle.pool.specs.declared.Particle.{Particle}
+use Rattle.pool.specs.declared.Retired.{Retired}
+use Rattle.pool.specs.declared.Retired.the-variants.{Not, At}
+use Rattle.settings.specs.declared.Config.{Config}
+use Rattle.settings.specs.declared.Shape.{Shape}
+use Rattle.settings.specs.declared.Shape.the-variants.{Sprinkle, Cloud}
+use Rattle.settings.specs.declared.Direction.{Direction}
+use Rattle.settings.specs.declared.Direction.the-variants.{Forward, Reverse, Alternate}
+use Rattle.sources.specs.declared.Source.{Source}
+use Rattle.state.specs.declared.Engine.{Engine}
+use Rattle.state.specs.declared.Prepared.{Prepared}
+use Rattle.timing.specs.declared.SprinkleStream.{SprinkleStream}
+
+abbrev pub none : ℕ
+none = 18446744073709551615
+
+unfoldable pub flagOf : Bool → ℕ
+flagOf b = pick b 1 0
+
+-- 256 stands for no source
+unfoldable pub slotOf : ℕ → ℕ
+slotOf n = pick (eqb n 256) none n
+
+abbrev pub retiredOf : Retired → ℕ
+retiredOf Not = none
+retiredOf (At sample) = sample
+
+abbrev pub shapeOf : Shape → ℕ
+shapeOf Sprinkle = 0
+shapeOf Cloud = 1
+
+abbrev pub directionOf : Direction → ℕ
+directionOf Forward = 0
+directionOf Reverse = 1
+directionOf Alternate = 2
+
+abbrev single : Float → ℕ
+single x = toBits binary32 x
+
+abbrev double : Float → ℕ
+double x = toBits binary64 x
+
+abbrev pub countsOf : Engine → List ℕ
+countsOf e =
+    e .clock .sample
+    ∷ double (e .clock .phase)
+    ∷ double (e .clock .«phase_offset»)
+    ∷ e .next .opportunity
+    ∷ e .next .«immediate_index»
+    ∷ slotOf (e .next .«last_source»)
+    ∷ flagOf (e .next .«note_input_present»)
+    ∷ e .tally .attempts
+    ∷ single (e .activity)
+    ∷ e .tally .births
+    ∷ e .tally .dropped
+    ∷ e .tally .«decision_hash»
+    ∷ e .tally .held
+    ∷ []
+
+abbrev pub configOf : Config → List ℕ
+configOf c =
+    flagOf (c .enabled)
+    ∷ shapeOf (c .shape)
+    ∷ directionOf (c .direction)
+    ∷ single (c .«rate_hz»)
+    ∷ single (c .«size_octaves»)
+    ∷ single (c .phase)
+    ∷ flagOf (c .scheduled)
+    ∷ flagOf (c .sync)
+    ∷ c .«hop_samples»
+    ∷ c .partials
+    ∷ single (c .«partial_rolloff_db»)
+    ∷ single (c .«attack_ms»)
+    ∷ single (c .«release_ms»)
+    ∷ []
+
+abbrev pub preparedOf : Prepared → List ℕ
+preparedOf p = double (p .«sample_rate») ∷ double (p .«phase_alpha») ∷ []
+
+-- the log of a harmonic, its weight at the start, and its weight now
+abbrev pub harmonicOf : Float → Float → Float → List ℕ
+harmonicOf log first now = single log ∷ single first ∷ single now ∷ []
+
+abbrev pub streamOf : SprinkleStream → List ℕ
+streamOf s = s .index ∷ double (s .next) ∷ flagOf (s .emit) ∷ []
+
+abbrev pub sourceOf : Source → List ℕ
+sourceOf s = single (s .«frequency_hz») ∷ single (s .strength) ∷ flagOf (s .eligible) ∷ []
+
+abbrev pub particleOf : Particle → List ℕ
+particleOf p =
+    flagOf (p .active)
+    ∷ slotOf (p .source)
+    ∷ p .birth
+    ∷ double (p .lifetime)
+    ∷ single (p .«frequency_hz»)
+    ∷ single (p .octave)
+    ∷ single (p .width)
+    ∷ single (p .strength)
+    ∷ single (p .attack)
+    ∷ p .«decay_power»
+    ∷ getD (p .partials) 0 0
+    ∷ getD (p .partials) 1 0
+    ∷ getD (p .partials) 2 0
+    ∷ retiredOf (p .retirement)
+    ∷ []

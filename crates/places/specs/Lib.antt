@@ -1,2 +1,0 @@
-pub mod Freed
-pub mod Shown

@@ -1,4 +1,0 @@
-pub mod Places
-pub mod Script
-pub mod Steps
-pub mod Whole

@@ -1,0 +1,87 @@
+-- What one field does to the run: 01's table, one line a tag. Definitions only.
+use mathlib.Core.Bool.{Bool}
+use lib.Ieee.{Float}
+use Rattle.floats.specs.Names.{f32}
+use Rattle.refusals.specs.declared.Refusal.{Refusal}
+use Rattle.refusals.specs.declared.Answer.{Answer}
+use Rattle.refusals.specs.declared.Answer.the-variants as A
+use Rattle.script.specs.declared.fields.Field.{Field}
+use Rattle.script.specs.declared.fields.Field.the-variants as F
+use Rattle.sources.specs.declared.Source.{Source}
+use Rattle.windows.specs.declared.Frame.{Frame}
+use Rattle.windows.specs.Opening.{emptyFrame}
+use Rattle.state.specs.declared.Engine.{Engine}
+use Rattle.state.specs.declared.Done.{Done}
+use Rattle.engine.specs.declared.triggers.Triggered.{Triggered}
+use Rattle.engine.specs.declared.triggers.Outcome.{Outcome}
+use Rattle.engine.specs.declared.triggers.Outcome.the-variants as O
+use Rattle.engine.specs.New.{newEngineOf, resetOf}
+use Rattle.engine.specs.Changes.{configuredOf, notesOf, soughtOf}
+use Rattle.engine.specs.Slots.{setSourceOf, retireSourceOf, releaseSourceOf}
+use Rattle.engine.specs.Advance.{advancedOf}
+use Rattle.engine.specs.Triggers.{triggeredOf, reservedOf, triggeredBy}
+use Rattle.script_steps.specs.Values.{valuesOf}
+use Rattle.frame.specs.declared.Framed.{Framed}
+use Rattle.frame.specs.Call.{framedOf as takeFrameOf}
+use Rattle.script_steps.specs.declared.Run.{Run}
+use Rattle.script_steps.specs.declared.Reply.the-variants as R
+use Rattle.script_steps.specs.declared.Stepped.{Stepped}
+
+-- before the first field, whose rate makes the engine anew
+unfoldable pub fresh : Run
+fresh = record { engine = newEngineOf (f32 0x473b8000) .engine; frame = emptyFrame }
+
+-- the engine after the call, the last accepted frame as it was
+abbrev pub withEngine : Run → Engine → Run
+withEngine run e = record { engine = e; frame = run .frame }
+
+abbrev pub quietOf : Run → Engine → Stepped
+quietOf run e = record { run = withEngine run e; reply = R.Quiet }
+
+abbrev pub refusedOf : Run → Engine → Refusal → Stepped
+refusedOf run e r = record { run = withEngine run e; reply = R.Refused r }
+
+abbrev pub answeredOf : Run → Engine → Answer → Stepped
+answeredOf run e A.Taken = quietOf run e
+answeredOf run e (A.Refused r) = refusedOf run e r
+
+abbrev pub doneOf : Run → Done → Stepped
+doneOf run d = answeredOf run (d .engine) (d .answer)
+
+-- born, not eligible and dropped print nothing
+abbrev pub outcomeOf : Run → Engine → Outcome → Stepped
+outcomeOf run e O.Born = quietOf run e
+outcomeOf run e O.NotEligible = quietOf run e
+outcomeOf run e O.Dropped = quietOf run e
+outcomeOf run e (O.Refused r) = refusedOf run e r
+
+abbrev pub firedOf : Run → Triggered → Stepped
+firedOf run t = outcomeOf run (t .engine) (t .outcome)
+
+abbrev pub shownOf : Engine → Frame → Stepped
+shownOf e f = record { run = record { engine = e; frame = f }; reply = R.Framed (valuesOf e (f .activity)) }
+
+abbrev pub frameOf : Run → Engine → Frame → Answer → Stepped
+frameOf run e f A.Taken = shownOf e f
+frameOf run e f (A.Refused r) = refusedOf run e r
+
+abbrev pub framedOf : Run → Framed → Stepped
+framedOf run f = frameOf run (f .engine) (f .frame) (f .answer)
+
+abbrev pub sourceOf : Float → Float → Bool → Source
+sourceOf frequency strength eligible = record { «frequency_hz» = frequency; strength = strength; eligible = eligible }
+
+unfoldable pub stepOf : Run → Field → Stepped
+stepOf run (F.Rate x) = doneOf run (newEngineOf x)
+stepOf run (F.Configure c) = doneOf run (configuredOf (run .engine) c)
+stepOf run (F.Source s f g b) = doneOf run (setSourceOf (run .engine) s (sourceOf f g b))
+stepOf run (F.Retire s) = doneOf run (retireSourceOf (run .engine) s)
+stepOf run (F.Release s) = doneOf run (releaseSourceOf (run .engine) s)
+stepOf run (F.Trigger s) = firedOf run (triggeredOf (run .engine) s)
+stepOf run (F.Seek x) = quietOf run (soughtOf (run .engine) x)
+stepOf run (F.Advance n) = doneOf run (advancedOf (run .engine) n)
+stepOf run (F.Frame b x) = framedOf run (takeFrameOf (run .engine) b x)
+stepOf run (F.NoteInput b) = quietOf run (notesOf (run .engine) b)
+stepOf run F.Reset = quietOf run (resetOf (run .engine))
+stepOf run F.Reserve = quietOf run (reservedOf (run .engine) .engine)
+stepOf run (F.ReservedTrigger s i) = firedOf run (triggeredBy (run .engine) s i)

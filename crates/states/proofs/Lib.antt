@@ -1,2 +1,0 @@
-mod Joined
-pub mod Whole

@@ -1,2 +1,0 @@
-pub mod Triggers
-pub mod Firing

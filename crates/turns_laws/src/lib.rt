@@ -1,1 +1,0 @@
-// Laws of the turns of a script. It has no code.

@@ -1,3 +1,0 @@
-pub mod Waits
-pub mod NothingDue
-pub mod Delivered
