@@ -9,7 +9,7 @@ fn main() {
     println!("cargo:rerun-if-env-changed=RAKNADUV_ARCHIVE");
     let folder = env::var("RAKNADUV_ARCHIVE").expect("bench/run sets RAKNADUV_ARCHIVE");
     println!("cargo:rustc-link-search=native={folder}");
-    for archive in ["host", "probe"] {
+    for archive in ["host", "oracle_probe"] {
         println!("cargo:rerun-if-changed={folder}/lib{archive}.a");
         println!("cargo:rustc-link-lib=static={archive}");
     }

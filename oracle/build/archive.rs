@@ -6,17 +6,42 @@ use std::{env, fs};
 /// Archive, a name in it, the library to link, and the `cfg` that says so. The probes' archives
 /// stand before the host's, whose functions they may share.
 const FOUND: [(&str, &str, &str, &str); 11] = [
-    ("libprobe.a", "rk_probe_floor32", "probe", "probed"),
-    ("libprobe.a", "rk_probe_write_record", "probe", "recorded"),
-    ("libreplay.a", "rk_probe_listing", "replay", "listed"),
-    ("libreplay.a", "rk_probe_fields", "replay", "left"),
     (
-        "libreplay.a",
+        "liboracle_probe.a",
+        "rk_probe_floor32",
+        "oracle_probe",
+        "probed",
+    ),
+    (
+        "liboracle_probe.a",
+        "rk_probe_write_record",
+        "oracle_probe",
+        "recorded",
+    ),
+    (
+        "liboracle_replay.a",
+        "rk_probe_listing",
+        "oracle_replay",
+        "listed",
+    ),
+    (
+        "liboracle_replay.a",
+        "rk_probe_fields",
+        "oracle_replay",
+        "left",
+    ),
+    (
+        "liboracle_replay.a",
         "rk_probe_listing_from",
-        "replay",
+        "oracle_replay",
         "late_listed",
     ),
-    ("libreplay.a", "rk_probe_fields_from", "replay", "late_left"),
+    (
+        "liboracle_replay.a",
+        "rk_probe_fields_from",
+        "oracle_replay",
+        "late_left",
+    ),
     (
         "liboracle_rewrite.a",
         "rk_probe_rewritten",

@@ -119,7 +119,7 @@ pub fn compare(count: u64, base: u64, limit: u64, out: &mut impl Write) -> io::R
             &lent::attenuations_differ(base),
         )?;
     } else {
-        sum.absent("the single layers (no libprobe.a)")?;
+        sum.absent("the single layers (no liboracle_probe.a)")?;
     }
     recording::compare(base, &mut sum)?;
     filing::compare(count, base, limit, &mut sum)?;

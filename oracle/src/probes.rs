@@ -1,4 +1,4 @@
-//! The list of probes: a single function of the port, `rk_probe_NAME` in the archive `libprobe.a`,
+//! The list of probes: a single function of the port, `rk_probe_NAME` in the archive `liboracle_probe.a`,
 //! and the Rust that it must equal bit for bit. A layer has its rows here.
 use crate::bits::Bits;
 use crate::exact;
