@@ -1,6 +1,17 @@
-// Numbers as bytes, the highest first; floats by their bits, every NaN by one pattern.
+// Numbers as bytes, the highest first, written and read; floats by their bits, every NaN by one pattern.
 ghost use mathlib.Core.Path.{_≡_};
 ghost use Rattle.big_endian.specs.Bytes.{bytes16, bytes32, bytes64, single, double, flagOf};
+
+mod numbers;
+
+pub use numbers::be16_at;
+pub use numbers::be32_at;
+pub use numbers::be64_at;
+pub use numbers::byte;
+pub use numbers::f32_at;
+pub use numbers::f64_at;
+pub use numbers::flag_at;
+pub use numbers::up_to;
 
 pub fn bytes16(n: u16) -> [u8; 2]
     ensures { λ r. ⌜ r ≡ bytes16 n ⌝ }

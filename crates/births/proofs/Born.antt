@@ -1,7 +1,7 @@
 -- What a birth stores, by the four ways that it can go; and the engine with it is the engine after the birth.
 use Prim.Native.Nat.{ℕ}
 use mathlib.Core.Path.{_≡_, refl, sym, ap, _∙_}
-use mathlib.Core.Bool.{Bool, true, false}
+use mathlib.Core.Bool.{true, false}
 use lib.Dec.{eqb, ltb}
 use lib.ListN.{set}
 use Rattle.sequences.specs.Pick.{pick, picked, passed, took, skipped, by-case}

@@ -4,6 +4,7 @@ use mathlib.Core.List.{List}
 use lib.Dec.{eqb, ltb}
 use lib.Ieee.{Float}
 use lib.ListN.{getD, set}
+use Rattle.sources.specs.Sources.{maxSources}
 use Rattle.sequences.specs.Pick.{pick}
 use Rattle.draws.specs.Draws.{randomOf}
 use Rattle.sources.specs.Choosing.{chosenOf}
@@ -23,10 +24,10 @@ use Rattle.births.specs.Birth.{chosenFor, withLast, triedOne, newbornFor
 
 -- ---- the choice and the voice
 abbrev pub chosenBy : List Source → ℕ → ℕ → ℕ → ℕ
-chosenBy sources last index own = pick (ltb own 256) own (chosenOf last sources (randomOf index 1))
+chosenBy sources last index own = pick (ltb own maxSources) own (chosenOf last sources (randomOf index 1))
 
 abbrev pub voiceBy : List Source → Shape → Float → Float → ℕ → ℕ → Voice
-voiceBy sources shape phase rate index slot = pick (ltb slot 256) (sourceVoiceOf slot (getD sources slot pastSource)) (freeVoiceOf shape index phase rate)
+voiceBy sources shape phase rate index slot = pick (ltb slot maxSources) (sourceVoiceOf slot (getD sources slot pastSource)) (freeVoiceOf shape index phase rate)
 
 -- ---- what is stored
 -- 64 is no place

@@ -1,8 +1,10 @@
--- One birth, line by line as the Rust's `birth`. 256 is no source. Definitions only.
+-- One birth, line by line as the Rust's `birth`. Definitions only.
 use Prim.Native.Nat.{ℕ}
 use mathlib.Core.Bool.{Bool, false}
 use lib.Dec.{eqb, ltb}
 use lib.ListN.{getD, set}
+use Rattle.sources.specs.Sources.{maxSources, noSlot}
+use Rattle.floats.specs.Word.{grown}
 use Rattle.sequences.specs.Pick.{pick}
 use Rattle.draws.specs.Draws.{randomOf}
 use Rattle.births.specs.declared.voices.Voice.{Voice}
@@ -14,12 +16,12 @@ use Rattle.sources.specs.Choosing.{chosenOf}
 use Rattle.state.specs.declared.Engine.{Engine}
 use Rattle.state.specs.declared.Next.{Next}
 use Rattle.state.specs.declared.Tally.{Tally}
-use Rattle.state.specs.State.{grown, withNext, withParticles, withTally, pastSource}
+use Rattle.state.specs.State.{withNext, withParticles, withTally, pastSource}
 use Rattle.state.specs.Tallies.{droppedOne, bornOne}
 
 -- ---- the source: the trigger's own, or by the draw of stream 1
 unfoldable pub chosenFor : Engine → ℕ → ℕ → ℕ
-chosenFor e index own = pick (ltb own 256) own (chosenOf (e .next .«last_source») (e .sources) (randomOf index 1))
+chosenFor e index own = pick (ltb own maxSources) own (chosenOf (e .next .«last_source») (e .sources) (randomOf index 1))
 
 -- self.last_source = chosen
 abbrev pub withLast : Next → ℕ → Next
@@ -39,7 +41,7 @@ triedOne t = record { attempts = grown (t .attempts); births = t .births; droppe
 -- ---- the new particle
 unfoldable pub voiceFor : Engine → ℕ → ℕ → Voice
 voiceFor e index slot =
-    pick (ltb slot 256) (sourceVoiceOf slot (getD (e .sources) slot pastSource))
+    pick (ltb slot maxSources) (sourceVoiceOf slot (getD (e .sources) slot pastSource))
     (freeVoiceOf (e .config .shape) index (e .clock .phase) (e .prepared .«sample_rate»))
 
 unfoldable pub newbornFor : Engine → ℕ → ℕ → Particle
@@ -56,7 +58,7 @@ admittedOf e index slot =
 
 -- source.is_none() && self.note_input_present
 unfoldable pub isBarred : ℕ → Bool → Bool
-isBarred slot notes = pick (eqb slot 256) notes false
+isBarred slot notes = pick (eqb slot noSlot) notes false
 
 -- if self.attempts == MAX_BIRTH_ATTEMPTS { self.dropped += 1; return; } self.attempts += 1; if .. { return; }
 unfoldable pub attemptedOf : Engine → ℕ → ℕ → Engine

@@ -17,15 +17,15 @@ use Rattle.settings.specs.declared.Config.{Config}
 use Rattle.settings.specs.declared.Direction.{Direction}
 use Rattle.settings.specs.declared.Shape.{Shape}
 use Rattle.settings.specs.declared.Shape.the-variants.{Sprinkle, Cloud}
-use Rattle.settings.specs.Envelope.{envelopeOf}
+use Rattle.settings.specs.Envelope.{contourOf}
 use Rattle.births.specs.declared.voices.Voice.{Voice}
-use Rattle.births.specs.Voices.{rate32, maxHzOf}
+use Rattle.pitch.specs.Highest.{maxHzOf, rate32}
 
 -- ---- octave and register_strength
 -- if sprinkle { sprinkle_register(..) } else { (0.0, register_strength(frequency_hz.log2())) }
 unfoldable pub registerBy : Shape → ℕ → Float → Float → Direction → Register
 registerBy Sprinkle index hz maxHz direction = registerOf index hz maxHz direction
-registerBy Cloud index hz maxHz direction = record { octave = f32 0; strength = register.strengthOf (log2Of hz) }
+registerBy Cloud index hz maxHz direction = record { octave = f32 0; strength = register.registerStrength (log2Of hz) }
 
 -- ---- width, strength, decay_power, partials
 -- range[0] + (range[1] - range[0]) * random(index, stream)
@@ -65,7 +65,7 @@ unfoldable pub newbornOf : ℕ → Voice → Config → Float → ℕ → List F
 newbornOf index voice config rate sample weights =
     let shape = config .shape in
     let hz = voice .«frequency_hz» in
-    let contour = envelopeOf config index (rate32 rate) in
+    let contour = contourOf config index (rate32 rate) in
     let register = registerBy shape index hz (maxHzOf rate) (config .direction) in
     record {
       active = true;

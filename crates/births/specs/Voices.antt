@@ -1,9 +1,10 @@
--- What a birth sounds, line by line as the Rust's `birth` finds it. 256 is no source. Definitions only.
+-- What a birth sounds, line by line as the Rust's `birth` finds it. Definitions only.
 use Prim.Native.Nat.{ℕ}
-use lib.Ieee.{Float, binary32, binary64, toUnsigned}
+use lib.Ieee.{Float, binary64, toUnsigned}
+use Rattle.sources.specs.Sources.{noSlot}
+use Rattle.pitch.specs.Highest.{maxHzOf}
 use Rattle.floats.specs.Names.{f32, f64, mul32, div64}
-use Rattle.floats.specs.Choose.{min, clamp}
-use Rattle.floats.specs.Convert.{convert}
+use Rattle.floats.specs.Choose.{clamp}
 use Rattle.floats.specs.Whole.{floor}
 use Rattle.draws.specs.Draws.{randomOf}
 use Rattle.powers.specs.Power.{pow8}
@@ -12,14 +13,6 @@ use Rattle.settings.specs.declared.Shape.{Shape}
 use Rattle.settings.specs.declared.Shape.the-variants.{Sprinkle, Cloud}
 use Rattle.sources.specs.declared.Source.{Source}
 use Rattle.births.specs.declared.voices.Voice.{Voice}
-
--- self.prepared.sample_rate as f32
-abbrev pub rate32 : Float → Float
-rate32 rate = convert binary32 rate
-
--- (self.prepared.sample_rate as f32 * 0.5).min(20_000.0)
-unfoldable pub maxHzOf : Float → Float
-maxHzOf rate = min (mul32 (rate32 rate) (f32 0x3f000000)) (f32 0x469c4000)
 
 -- ---- frequency_hz
 -- let phrase = (self.phase / SPRINKLE_GROUP_CYCLES).floor() as u64; FREE_ROOT_MIN_HZ * FREE_ROOT_RATIO.powf(random(phrase, 11))
@@ -35,7 +28,7 @@ freeHzOf Cloud index phase maxHz = frequencyOf index maxHz
 -- without a source: its own frequency, and strength 1.0
 unfoldable pub freeVoiceOf : Shape → ℕ → Float → Float → Voice
 freeVoiceOf shape index phase rate =
-    record { slot = 256; «frequency_hz» = freeHzOf shape index phase (maxHzOf rate); strength = f32 0x3f800000 }
+    record { slot = noSlot; «frequency_hz» = freeHzOf shape index phase (maxHzOf rate); strength = f32 0x3f800000 }
 
 -- |s| self.sources[s].frequency_hz, |s| self.sources[s].strength.clamp(0.0, 1.0)
 unfoldable pub sourceVoiceOf : ℕ → Source → Voice

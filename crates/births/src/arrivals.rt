@@ -6,14 +6,13 @@ use crate::voices;
 use crate::voices::Voice;
 use pool::Particle;
 use settings::Shape;
+use sources::MAX_SOURCES;
+use sources::NO_SOURCE;
 use sources::Source;
 use state::Engine;
 use state::Tally;
 
 pub const MAX_BIRTH_ATTEMPTS: u64 = 64;
-
-// The place of a birth that takes none.
-pub const NO_PLACE: usize = 64;
 
 // What a birth stores in the engine: the slot that it chose, the tally, and the particle at its place.
 pub struct Arrival {
@@ -33,7 +32,7 @@ fn try_one(tally: Tally) -> Tally
 }
 
 fn voice(
-    sources: [Source; 256],
+    sources: [Source; MAX_SOURCES],
     shape: Shape,
     phase: f64,
     sample_rate: f64,
@@ -42,7 +41,7 @@ fn voice(
 ) -> Voice
     ensures { λ r. ⌜ r ≡ voiceBy sources shape phase «sample_rate» index slot ⌝ }
 {
-    if slot < 256 {
+    if slot < MAX_SOURCES {
         let source = sources[slot];
         return voices::source_voice(slot, source);
     }
@@ -53,7 +52,7 @@ fn voice(
 fn barred(slot: usize, note_input_present: bool) -> bool
     ensures { λ r. ⌜ r ≡ isBarred slot «note_input_present» ⌝ }
 {
-    if slot == 256 {
+    if slot == NO_SOURCE {
         note_input_present
     } else {
         false
@@ -61,10 +60,10 @@ fn barred(slot: usize, note_input_present: bool) -> bool
 }
 
 // A trigger's own slot, or one of the eligible sources by the draw.
-fn choose(sources: [Source; 256], last: usize, index: u64, own: usize) -> usize
+fn choose(sources: [Source; MAX_SOURCES], last: usize, index: u64, own: usize) -> usize
     ensures { λ r. ⌜ r ≡ chosenBy sources last index own ⌝ }
 {
-    if own < 256 {
+    if own < MAX_SOURCES {
         return own;
     }
     sources::choose(sources, last, draws::random(index, draws::SOURCE))
@@ -79,7 +78,7 @@ pub fn turned_away(slot: usize, tally: Tally) -> Arrival
         particle,
         tally,
         slot,
-        place: NO_PLACE,
+        place: pool::NO_PLACE,
     }
 }
 
@@ -101,7 +100,7 @@ pub fn birth(engine: Engine, index: u64, own: usize) -> Arrival
     }
     let particles = engine.particles;
     let place = pool::free_place(particles);
-    if place < 64 {
+    if place < pool::MAX_PARTICLES {
         let config = engine.config;
         let shape = config.shape;
         let weights = engine.partial_weights;

@@ -14,7 +14,6 @@ mod arrivals;
 mod voices;
 
 pub use arrivals::birth;
-pub use voices::max_hz;
 
 pub const SPRINKLE_DECAY_POWER: u32 = 3;
 
@@ -115,7 +114,7 @@ pub fn newborn(
     let shape = config.shape;
     let direction = config.direction;
     let hz = voice.frequency_hz;
-    let max_hz = voices::max_hz(sample_rate);
+    let max_hz = pitch::max_hz(sample_rate);
     let contour = settings::envelope(config, index, floats::f64_to_f32(sample_rate));
     let register = register(shape, index, hz, max_hz, direction);
     let width = width(shape, config.size_octaves, index);

@@ -1,26 +1,17 @@
 // What a birth sounds: the pitch and strength of its source, or those of a birth without one.
 ghost use mathlib.Core.Path.{_≡_};
-ghost use Rattle.births.specs.Voices.{maxHzOf, freeRootOf, freeHzOf, freeVoiceOf, sourceVoiceOf};
+ghost use Rattle.births.specs.Voices.{freeRootOf, freeHzOf, freeVoiceOf, sourceVoiceOf};
 use settings::Shape;
 use sources::Source;
 
 // Free Sprinkle roots span three octaves; octave choices and partials share each root.
 pub const FREE_ROOT_MIN_HZ: f32 = 200.0;
 
-pub const FREE_ROOT_RATIO: f32 = 8.0;
-
-// What a birth sounds: the slot it has chosen (256 for none), and the pitch and strength that it found.
+// What a birth sounds: the slot it has chosen (`NO_SOURCE` for none), and the pitch and strength that it found.
 pub struct Voice {
     pub slot: usize,
     pub frequency_hz: f32,
     pub strength: f32,
-}
-
-// Nothing sounds from here up.
-pub fn max_hz(sample_rate: f64) -> f32
-    ensures { λ r. ⌜ r ≡ maxHzOf «sample_rate» ⌝ }
-{
-    floats::min32(floats::f64_to_f32(sample_rate) * 0.5, 20000.0)
 }
 
 // One root for three Rate cycles makes a short harmonic phrase. The phase's offset has no part in it.
@@ -44,9 +35,9 @@ fn free_frequency(shape: Shape, index: u64, phase: f64, max_hz: f32) -> f32
 pub fn free_voice(shape: Shape, index: u64, phase: f64, sample_rate: f64) -> Voice
     ensures { λ r. ⌜ r ≡ freeVoiceOf shape index phase «sample_rate» ⌝ }
 {
-    let frequency_hz = free_frequency(shape, index, phase, max_hz(sample_rate));
+    let frequency_hz = free_frequency(shape, index, phase, pitch::max_hz(sample_rate));
     Voice {
-        slot: sources::MAX_SOURCES,
+        slot: sources::NO_SOURCE,
         frequency_hz,
         strength: 1.0,
     }

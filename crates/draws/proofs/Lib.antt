@@ -1,1 +1,1 @@
-pub mod Unit
+pub mod Drawn

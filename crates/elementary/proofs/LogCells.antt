@@ -9,7 +9,7 @@ use lib.Dec.{T, leb, ltb, leb→le}
 use lib.Ieee.Fits.{and-l, and-r}
 use borrow.Author.Tests.{lt-ltb}
 use Rattle.sequences.specs.All.{all, all-at}
-use Rattle.elementary.specs.Parabolas.{topOf, tops, slopeOf, slopes, bendOf, bends}
+use Rattle.elementary.specs.LogCells.{topOf, tops, slopeOf, slopes, bendOf, bends}
 use Rattle.elementary.specs.Log2.{fallOf, cellOf, fractionOf}
 
 -- ---- the rule of the table: a cell starts at 0 or above, and ends where the next starts or below; the last ends below 1

@@ -18,7 +18,7 @@ use Rattle.floats_laws.proofs.PositiveBits.{positive-above, positive-under}
 use Rattle.floats_laws.proofs.Rescaled.{rescale, one-value, powers-join, powers-move}
 use Rattle.floats.proofs.Values.{unique}
 use Rattle.elementary.specs.Rung.{rungOf, digitsOf}
-use Rattle.elementary.specs.Sqrt.{Nearest, nearestRoot, scaledOf, rootBits, sqrtOf, Rounded}
+use Rattle.elementary.specs.Sqrt.{NearestRoot, nearestRoot, scaledOf, rootBits, sqrtOf, RootRounded}
 use Rattle.elementary.proofs.Rungs.{amount, Parts, parts}
 use Rattle.elementary.proofs.Squares.{squares-le, nearest-unique, nearest-root}
 use Rattle.elementary.proofs.Tested.{passed}
@@ -47,7 +47,7 @@ pub record Scaled (b : ℕ) : Type 0 where
   pub few : nearestRoot (scaledOf b) < 16777216
   pub under : rootBits b < 2139095040
 
-root-lead : (n r : ℕ) → 70368744177664 ≤ n → Nearest n r → 8388608 ≤ r
+root-lead : (n r : ℕ) → 70368744177664 ≤ n → NearestRoot n r → 8388608 ≤ r
 root-lead n r h p = elim (le-or-lt 8388608 r) [
   | inl l ↦ l
   | inr g ↦ absurd (small (lt-of-lt-of-le (p .above) (squares-le (2 * r + 1) 16777215 (few r g))))
@@ -59,7 +59,7 @@ root-lead n r h p = elim (le-or-lt 8388608 r) [
     small : 4 * n < 281474943156225 → ⊥
     small k = omega arith
 
-root-few : (n r : ℕ) → n ≤ 281474959933440 → Nearest n r → r < 16777216
+root-few : (n r : ℕ) → n ≤ 281474959933440 → NearestRoot n r → r < 16777216
 root-few n r h p = elim (le-or-lt 16777216 r) [
   | inl g ↦ absurd (large (lt-of-le-of-lt (squares-le 33554431 (2 * r - 1) (many r g)) (p .below)))
   | inr l ↦ l
@@ -126,7 +126,7 @@ scaled-value b s =
     same j = omega arith
 
 -- ---- THE CLAIM
-pub sqrt-rounds : (x : Float) → T (fits binary32 x) → T (positive x) → Rounded x (sqrtOf x)
+pub sqrt-rounds : (x : Float) → T (fits binary32 x) → T (positive x) → RootRounded x (sqrtOf x)
 unfolding rootBits
 sqrt-rounds x f p =
     let b = toBits binary32 x in
@@ -160,10 +160,10 @@ steps-le n m i j N M h = elim (le-or-lt i j) [
     four : 2 ^ 48 * 2 ^ (2 * j) ≤ 2 ^ 46 * 2 ^ (2 + 2 * j)
     four = le-of-eq (mul-assoc (2 ^ 46) (2 ^ 2) (2 ^ (2 * j)) ∙ ap (λ (z : ℕ). 2 ^ 46 * z) (sym (pow-add 2 2 (2 * j))))
 
-pub rounded-unique : (x y z : Float) → T (fits binary32 y) → T (fits binary32 z) → Rounded x y → Rounded x z → y ≡ z
+pub rounded-unique : (x y z : Float) → T (fits binary32 y) → T (fits binary32 z) → RootRounded x y → RootRounded x z → y ≡ z
 rounded-unique x y z f g p q =
     let e : p .n * 2 ^ (2 * p .h) ≡ q .n * 2 ^ (2 * q .h) = one-value x false _ _ (2 ^ 196) (p .argument) (q .argument) in
     let h : p .h ≡ q .h = le-antisymm (steps-le (p .n) (q .n) (p .h) (q .h) (p .from) (q .to) (le-of-eq e)) (steps-le (q .n) (p .n) (q .h) (p .h) (q .from) (p .to) (le-of-eq (sym e))) in
     let n : p .n ≡ q .n = eq-of-mul-eq-mul-right (2 ^ (2 * q .h)) (pow-pos (2 * q .h)) (p .n) (q .n) (ap (λ (k : ℕ). p .n * 2 ^ (2 * k)) (sym h) ∙ e) in
-    let r : p .r ≡ q .r = nearest-unique (q .n) (p .r) (q .r) (subst (λ (k : ℕ). Nearest k (p .r)) n (p .nearest)) (q .nearest) in
+    let r : p .r ≡ q .r = nearest-unique (q .n) (p .r) (q .r) (subst (λ (k : ℕ). NearestRoot k (p .r)) n (p .nearest)) (q .nearest) in
     unique binary32 y z false (q .r * 2 ^ q .h) (2 ^ 98) (pow-pos 98) f g (subst (λ (k : ℕ). HasValue y false (k * 2 ^ q .h) (2 ^ 98)) r (subst (λ (k : ℕ). HasValue y false (p .r * 2 ^ k) (2 ^ 98)) h (p .answer))) (q .answer)

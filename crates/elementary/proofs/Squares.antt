@@ -9,7 +9,7 @@ use native.Mathlib.Omega.{arith}
 use lib.Dec.{ltb}
 use borrow.Author.Tests.{ltb-true, ltb-false}
 use Rattle.floats_laws.proofs.Naturals.{le-or-lt}
-use Rattle.elementary.specs.Sqrt.{square, Nearest, middlesBelow, nearestRoot}
+use Rattle.elementary.specs.Sqrt.{square, NearestRoot, middlesBelow, nearestRoot}
 
 -- ---- odd numbers' squares
 pub odd-square : (i : ℕ) → square (2 * i + 1) ≡ 4 * (i * (i + 1)) + 1
@@ -23,19 +23,19 @@ pub squares-le : (a b : ℕ) → a ≤ b → square a ≤ square b
 squares-le a b h = mul-le-mul h h
 
 -- ---- only one
-apart : (n r s : ℕ) → Nearest n r → Nearest n s → s < r → ⊥
+apart : (n r s : ℕ) → NearestRoot n r → NearestRoot n s → s < r → ⊥
 apart n r s p q h = lt-irrefl (4 * n) (lt-trans (lt-of-lt-of-le (q .above) (squares-le (2 * s + 1) (2 * r - 1) (gap r s h))) (p .below))
   where
     gap : (r s : ℕ) → s < r → 2 * s + 1 ≤ 2 * r - 1
     gap r s h = omega arith
 
-pub nearest-unique : (n r s : ℕ) → Nearest n r → Nearest n s → r ≡ s
+pub nearest-unique : (n r s : ℕ) → NearestRoot n r → NearestRoot n s → r ≡ s
 nearest-unique n r s p q = elim (le-or-lt r s) [
   | inl l ↦ elim (le-or-lt s r) [ inl g ↦ le-antisymm l g | inr g ↦ absurd (apart n s r q p g) ]
   | inr g ↦ absurd (apart n r s p q g)
 ]
 
-pub nearest-mono : (n m r s : ℕ) → n ≤ m → Nearest n r → Nearest m s → r ≤ s
+pub nearest-mono : (n m r s : ℕ) → n ≤ m → NearestRoot n r → NearestRoot m s → r ≤ s
 nearest-mono n m r s h p q = elim (le-or-lt r s) [
   | inl l ↦ l
   | inr g ↦ absurd (lt-irrefl (4 * m) (lt-of-lt-of-le (lt-of-lt-of-le (q .above) (squares-le (2 * s + 1) (2 * r - 1) (gap r s g))) (le-trans (less (p .below)) (four n m h))))
@@ -93,7 +93,7 @@ counts (suc i) n = go (middlesBelow i n) (counts i n) (ltb (square (2 * i + 1)) 
         none : (r : ℕ) → r ≡ r + 0
         none r = omega arith
 
-pub nearest-root : (n : ℕ) → 0 < n → Nearest n (nearestRoot n)
+pub nearest-root : (n : ℕ) → 0 < n → NearestRoot n (nearestRoot n)
 unfolding nearestRoot
 nearest-root n p = settle (middlesBelow n n) (counts n n)
   where
@@ -104,7 +104,7 @@ nearest-root n p = settle (middlesBelow n n) (counts n n)
         mul-le-mul-self zero = omega arith
         mul-le-mul-self (suc n) = omega (arith, mul-add (suc n) n 1)
 
-    settle : (r : ℕ) → Counted n n r → Nearest n r
+    settle : (r : ℕ) → Counted n n r → NearestRoot n r
     settle zero c = absurd (nothing n p (c .above p))
       where
         nothing : (n : ℕ) → 0 < n → 4 * n < square (2 * 0 + 1) → ⊥
@@ -114,7 +114,7 @@ nearest-root n p = settle (middlesBelow n n) (counts n n)
       above = elim (eq-or-lt-of-le (c .most)) [ inl e ↦ subst⁻¹ (λ (z : ℕ). 4 * n < square (2 * z + 1)) e (full n) | inr g ↦ c .above g ];
     }
 
-pub root-is : (n r : ℕ) → Nearest n r → nearestRoot n ≡ r
+pub root-is : (n r : ℕ) → NearestRoot n r → nearestRoot n ≡ r
 root-is n r p = nearest-unique n (nearestRoot n) r (nearest-root n (some n r (p .below))) p
   where
     some : (n r : ℕ) → square (2 * r - 1) < 4 * n → 0 < n
@@ -124,7 +124,7 @@ pub root-mono : (n m : ℕ) → 0 < n → n ≤ m → nearestRoot n ≤ nearestR
 root-mono n m p h = nearest-mono n m (nearestRoot n) (nearestRoot m) h (nearest-root n p) (nearest-root m (lt-of-lt-of-le p h))
 
 -- ---- as the code tests it
-pub settled : (n r : ℕ) → 1 ≤ r → r * (r - 1) < n → n ≤ r * (r + 1) → Nearest n r
+pub settled : (n r : ℕ) → 1 ≤ r → r * (r - 1) < n → n ≤ r * (r + 1) → NearestRoot n r
 settled n zero p h k = absurd (not-suc-le-zero p)
 settled n (suc i) p h k =
     let g : suc i * i < n = subst (λ (z : ℕ). suc i * z < n) (less i) h in
@@ -137,7 +137,7 @@ settled n (suc i) p h k =
     less i = omega arith
 
 -- the root of a square
-pub perfect : (r : ℕ) → 0 < r → Nearest (square r) r
+pub perfect : (r : ℕ) → 0 < r → NearestRoot (square r) r
 perfect r p = settled (square r) r p (omega (arith, mul-add r (r - 1) 1, ap (λ (z : ℕ). r * z) (restored r p))) (omega (arith, mul-add r r 1))
   where
     restored : (r : ℕ) → 0 < r → r - 1 + 1 ≡ r

@@ -5,18 +5,16 @@ use mathlib.Core.Bool.{Bool, true, false, true≢false}
 use Prim.Native.Nat.{ℕ, zero, suc, _+_, _*_, _≤_, _<_}
 use native.Mathlib.Nat.{mul-pos, zero-mul, zero-lt-suc}
 use native.Mathlib.Omega.{arith}
-use lib.IntN.{ℤ, pos}
+use lib.IntN.{ℤ}
 use lib.Pow.{pow-pos}
 use lib.Dec.{T, eqb, eqb→eq, ltb→lt, lt→ltb}
 use lib.Ieee.{Float, nan, inf, fin, binary32, up, down, isNan, ne, lt, le, eq, level, toBits}
 use lib.Ieee.Fits.{up-pos, and-l}
 use lib.Ieee.Positive.{positive, above, above-of-le}
+use Rattle.floats_laws.proofs.Rising.{nought}
 use Rattle.floats.proofs.Facts.{ne-self}
 use Rattle.elementary.specs.Log2.{logOf, log2Of}
 use borrow.Author.Tests.{ltb-false, le-ltb, ne-eqb}
-
-abbrev pub nought : Float
-nought = fin false 0 (pos 0)
 
 pub record Passed (x : Float) : Type 0 where
   pub number : isNan x ≡ false

@@ -1,4 +1,4 @@
 pub mod Rung
 pub mod Log2
 pub mod Sqrt
-pub mod Parabolas
+pub mod LogCells

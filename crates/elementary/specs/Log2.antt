@@ -9,10 +9,10 @@ use mathlib.Core.Bool.{true, false, cond}
 use lib.IntN.{pos}
 use lib.Ieee.{Float, nan, inf, fin, binary32, isNan, lt, eq, ofInt, toBits}
 use Rattle.floats.specs.Names.{f32, add32, sub32, mul32}
-use Rattle.elementary.specs.Parabolas.{topOf, slopeOf, bendOf}
+use Rattle.elementary.specs.LogCells.{topOf, slopeOf, bendOf}
 use Rattle.elementary.specs.Rung.{rungOf, digitsOf}
 
--- the cell's parabola, t steps before the cell's last place (Parabolas.antt)
+-- the cell's parabola, t steps before the cell's last place (LogCells.antt)
 unfoldable pub fallOf : ℕ → ℕ → ℕ
 fallOf i t = t * (slopeOf i + bendOf i * t)
 

@@ -16,7 +16,7 @@ abbrev pub square : ℕ → ℕ
 square a = a * a
 
 -- r is the whole number nearest to the root of n: the root lies above the middle of r - 1 and r, and below that of r and r + 1
-pub record Nearest (n r : ℕ) : Type 0 where
+pub record NearestRoot (n r : ℕ) : Type 0 where
   pub below : square (2 * r - 1) < 4 * n
   pub above : 4 * n < square (2 * r + 1)
 
@@ -49,13 +49,13 @@ sqrtOf x =
 -- ---- what IEEE 754 says of it
 -- y is the root of x, rounded to nearest: x is n * 2^(2 e) and y is r * 2^e, where e is h - 98 and r is the whole number nearest to the root of n.
 -- n has 47 or 48 digits, so r has 24, as many as an f32 keeps.
-pub record Rounded (x y : Float) : Type 0 where
+pub record RootRounded (x y : Float) : Type 0 where
   pub n : ℕ
   pub r : ℕ
   pub h : ℕ
   pub argument : HasValue x false (n * 2 ^ (2 * h)) (2 ^ (2 * 98))
   pub answer : HasValue y false (r * 2 ^ h) (2 ^ 98)
-  pub nearest : Nearest n r
+  pub nearest : NearestRoot n r
   pub from : 2 ^ 46 ≤ n
   pub to : n < 2 ^ 48
   pub lead : 2 ^ 23 ≤ r

@@ -1,24 +1,21 @@
-// log2 of an f32: 64 parabolas for the digits, then the exponent. Operation for operation as
+// log2 of an f32: a parabola of 64 for the digits, then the exponent. Operation for operation as
 // specs/Log2.antt lists it. Proved: it never falls, and it is exact at the powers of two. Measured
 // over every argument: its error is at most 0.67 of the larger of two spacings and 2^-22.
 ghost use mathlib.Core.Path.{_≡_};
 ghost use Prim.Native.Nat.{_<_};
-ghost use Rattle.elementary.specs.Log2.{fractionOf, joinedOf, logOf, log2Of};
+ghost use Rattle.elementary.specs.Log2.{fractionOf, joinedOf, log2Of};
+use super::log_cells::cell_of;
 use super::rung::digits;
 use super::rung::rung;
-use crate::parabolas;
 
 // log2 (1 + p / 2^23) in units of 2^-24.
 fn fraction(p: u64) -> u64
     requires { ⌜ p < 8388608 ⌝ }
     ensures { λ r. ⌜ (r ≡ fractionOf p) × (r < 16777216) ⌝ }
 {
-    let i = p / 131072;
+    let c = cell_of(p / 131072);
     let t = 131071 - p % 131072;
-    let e = parabolas::top(i);
-    let s = parabolas::slope(i);
-    let b = parabolas::bend(i);
-    (e - t * (s + b * t)) / 274877906944
+    (c.top - t * (c.slope + c.bend * t)) / 274877906944
 }
 
 fn joined(j: u16, p: u64) -> f32

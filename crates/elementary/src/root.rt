@@ -3,7 +3,7 @@
 // the whole root.
 ghost use mathlib.Core.Path.{_≡_};
 ghost use Prim.Native.Nat.{_<_, _≤_, _+_, _*_};
-ghost use Rattle.elementary.specs.Sqrt.{nearestRoot, scaledOf, rootBits, sqrtOf};
+ghost use Rattle.elementary.specs.Sqrt.{nearestRoot, scaledOf, sqrtOf};
 use super::rung::digits;
 use super::rung::rung;
 

@@ -10,9 +10,9 @@ use lib.Ieee.Bits.{ofBits-toBits}
 use lib.Ieee.Fits.{add-fits, ofInt-fits, nan-fits, inf-fits}
 use Rattle.sequences.specs.All.{all, all-at}
 use Rattle.elementary.specs.Rung.{rungOf, digitsOf}
-use Rattle.elementary.specs.Parabolas.{tops, topOf, slopes, slopeOf, bends, bendOf}
+use Rattle.elementary.specs.LogCells.{tops, topOf, slopes, slopeOf, bends, bendOf}
 use Rattle.elementary.specs.Log2.{fallOf, cellOf, fractionOf, joinedOf, logOf, log2Of}
-use Rattle.elementary.proofs.Tested.{nought}
+use Rattle.floats_laws.proofs.Rising.{nought}
 
 -- 2^(k - 149), and k - 149
 abbrev pub power : ℕ → Float

@@ -21,7 +21,8 @@ use Rattle.elementary.proofs.LogCells.{fraction-mono, fraction-lt}
 use Rattle.elementary_laws.proofs.LogExact.{log2-infinity}
 use Rattle.elementary_laws.proofs.LogRungs.{answer, along, across, upward}
 use Rattle.elementary.proofs.Rungs.{Parts, parts, under}
-use Rattle.elementary.proofs.Tested.{nought, log-is, above-zero, under-infinity, infinity-top, rises-to}
+use Rattle.elementary.proofs.Tested.{log-is, above-zero, under-infinity, infinity-top, rises-to}
+use Rattle.floats_laws.proofs.Rising.{nought}
 
 -- ---- over patterns
 log-answer : (b : ℕ) → logOf b ≡ answer (rungOf b) (fractionOf (digitsOf b - 8388608))

@@ -15,14 +15,14 @@ use lib.Ieee.Scale.{finite}
 use Rattle.floats_laws.proofs.Numbers.{inside-finite, mul-number, positive-lt}
 use Rattle.floats_laws.proofs.PatternOrder.{patterns-rise}
 use Rattle.floats_laws.proofs.Rules.{add-number, finite-number, between-finite, lt→le}
-use Rattle.floats_laws.proofs.Rising.{add-rises, mul-rises}
+use Rattle.floats_laws.proofs.Rising.{add-rises, mul-rises, nought}
 use Rattle.floats_laws.proofs.ToBits.{toBits-mono}
 use Rattle.powers.specs.Placed.{edged, placed, placed32}
 use Rattle.powers.specs.PowerCells.{starts, slopes, bends, startOf, slopeOf, bendOf}
 use Rattle.powers.specs.Power.{lifted, mantissa, powerBits, power, exp2, exp, pow8, pow10}
 use Rattle.powers.proofs.Edges.{upper-edge, lower-edge, Inside, edged-rises}
 use Rattle.powers.proofs.PlacedRises.{placed-climbs, placed-rises, placed-under}
-use Rattle.powers.proofs.PowerLike.{nought, one, PowerLike}
+use Rattle.powers.proofs.PowerLike.{one, PowerLike}
 use Rattle.powers.proofs.PowerTable.{mantissa-rises, mantissa-low, mantissa-high}
 
 -- ---- patterns: from the bits of z to those of the answer

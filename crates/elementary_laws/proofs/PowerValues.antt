@@ -10,7 +10,7 @@ use lib.Ieee.Bits.{ofBits-fits}
 use lib.Ieee.Fits.{cond-fits}
 use lib.Ieee.Positive.{positive, positive-finite}
 use Rattle.floats_laws.proofs.Numbers.{div-number, positive-lt}
-use Rattle.floats_laws.proofs.Rising.{div-rises}
+use Rattle.floats_laws.proofs.Rising.{div-rises, nought}
 use Rattle.floats_laws.proofs.Rules.{le-trans}
 use Rattle.sequences.specs.All.{all, all-at}
 use Rattle.floats_laws.proofs.Same.{same, same→≡}
@@ -18,7 +18,7 @@ use Rattle.powers.specs.Placed.{edged, placed}
 use Rattle.powers.specs.PowerCells.{starts, slopes, bends, startOf, slopeOf, bendOf}
 use Rattle.powers.specs.Power.{lifted, mantissa, powerBits, power, exp2, pow10, dbToGain}
 use Rattle.powers.proofs.Edges.{upper-edge, lower-edge}
-use Rattle.powers.proofs.PowerLike.{nought, one, in-unit, at-most-one}
+use Rattle.powers.proofs.PowerLike.{one, in-unit, at-most-one}
 use Rattle.elementary_laws.proofs.PowerRises.{pow10-like}
 
 -- ---- 2^(n - 149), for n from 0 to 276

@@ -14,7 +14,7 @@ use lib.Ieee.Positive.{positive}
 use Rattle.floats_laws.proofs.Naturals.{le-or-lt}
 use Rattle.floats_laws.proofs.Rescaled.{rescale, one-value, powers-join, powers-move}
 use Rattle.floats.proofs.Values.{fine, steps, steps-are}
-use Rattle.elementary.specs.Sqrt.{square, Nearest, sqrtOf, Rounded, Closest}
+use Rattle.elementary.specs.Sqrt.{square, NearestRoot, sqrtOf, RootRounded, Closest}
 use Rattle.elementary.proofs.RootNearest.{sqrt-rounds}
 use Rattle.elementary.proofs.Rungs.{rungs-le}
 use Rattle.elementary.proofs.Squares.{squares-le}
@@ -84,7 +84,7 @@ sum-over i r u h = le-trans (mul-le-mul-right u (many i r h)) (le-of-eq (add-mul
     many i r h = omega arith
 
 -- ---- THE CLAIM, from how the answer was rounded
-module _ (n r t : ℕ) (p : Nearest n r) (from : 2 ^ 46 ≤ n) (lead : 2 ^ 23 ≤ r) where
+module _ (n r t : ℕ) (p : NearestRoot n r) (from : 2 ^ 46 ≤ n) (lead : 2 ^ 23 ≤ r) where
   -- at the least r, 2^23, the root is not below the answer
   at-least : (c : ℕ) → c < r * 2 ^ t → 2 ^ 23 ≡ r → square (r * 2 ^ t + c) < 4 * (n * (2 ^ t * 2 ^ t))
   at-least c h e =
@@ -113,7 +113,7 @@ module _ (n r t : ℕ) (p : Nearest n r) (from : 2 ^ 46 ≤ n) (lead : 2 ^ 23 �
       let w = multiple t c g (le-trans (mul-le-mul-right (2 ^ t) lead) (le-of-lt h)) in
       over n r (2 ^ t) (pow-pos t) (r * 2 ^ t + c) (subst⁻¹ (λ (k : ℕ). (2 * r + 1) * 2 ^ t ≤ r * 2 ^ t + k) (w .is) (sum-over (w .k) r (2 ^ t) (lt-of-mul-lt-mul-right (2 ^ t) (subst (λ (k : ℕ). r * 2 ^ t < k) (w .is) h)))) (p .above)
 
-pub closest : (x y : Float) → Rounded x y → Closest x y
+pub closest : (x y : Float) → RootRounded x y → Closest x y
 closest x y p =
     let t = p .h + 51 in
     record {

@@ -23,7 +23,8 @@ use Rattle.elementary.specs.Sqrt.{square, nearestRoot, scaledOf, rootBits, sqrt
 use Rattle.elementary.proofs.RootNearest.{sqrt-is, scaled, scaled-value}
 use Rattle.elementary.proofs.Rungs.{parts, under}
 use Rattle.elementary.proofs.Squares.{root-is, root-mono, perfect}
-use Rattle.elementary.proofs.Tested.{nought, passed, Level, none, some, most, at-least-zero, under-infinity, infinity-top, rises-to}
+use Rattle.elementary.proofs.Tested.{passed, Level, none, some, most, at-least-zero, under-infinity, infinity-top, rises-to}
+use Rattle.floats_laws.proofs.Rising.{nought}
 
 -- ---- over patterns
 level : (n m k : ℕ) → n * 2 ^ k * 2 ^ 149 ≤ m * 2 ^ k * 2 ^ 149 → n ≤ m

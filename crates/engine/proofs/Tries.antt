@@ -4,7 +4,7 @@ use mathlib.Core.Path.{_≡_, refl, sym, ap, _∙_}
 use mathlib.Core.Bool.{Bool, true, false}
 use lib.Ieee.{Float, lt}
 use lib.ListN.{getD, set}
-use Rattle.sequences.specs.Pick.{pick, took, skipped, by-case}
+use Rattle.sequences.specs.Pick.{pick, took, skipped}
 use Rattle.draws.specs.Draws.{keyOf}
 use Rattle.timing.specs.declared.SprinkleStream.{SprinkleStream}
 use Rattle.timing.specs.Streams.{movedOf}

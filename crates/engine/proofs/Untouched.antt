@@ -3,6 +3,7 @@ use Prim.Native.Nat.{ℕ}
 use mathlib.Core.Path.{_≡_, refl, ap, _∙_}
 use mathlib.Core.List.{List}
 use lib.Ieee.{Float}
+use Rattle.floats.specs.Word.{grown}
 use Rattle.sequences.specs.Pick.{either}
 use Rattle.pool.specs.declared.Particle.{Particle}
 use Rattle.settings.specs.declared.Shape.{Shape}
@@ -11,7 +12,7 @@ use Rattle.timing.specs.declared.SprinkleStream.{SprinkleStream}
 use Rattle.state.specs.declared.Engine.{Engine}
 use Rattle.state.specs.declared.Next.{Next}
 use Rattle.state.specs.declared.Tally.{Tally}
-use Rattle.state.specs.State.{grown, withNext, withParticles, withStreams, withTally}
+use Rattle.state.specs.State.{withNext, withParticles, withStreams, withTally}
 use Rattle.births.specs.Birth.{bornOf, attemptedOf, admittedOf}
 use Rattle.engine.specs.Sample.{triedOf, laneOf, lanesOf, cloudOf, byShape, deliveredOf, tickedOf, steppedOf}
 

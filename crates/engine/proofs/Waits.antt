@@ -2,11 +2,11 @@
 use Prim.Native.Nat.{ℕ, zero, suc, _+_, _-_, _≤_, _<_}
 use native.Mathlib.Omega.{arith}
 use mathlib.Core.Path.{_≡_, refl, sym, ap, _∙_, subst}
-use mathlib.Core.Bool.{Bool, true, false, cond}
+use mathlib.Core.Bool.{true, false, cond}
 use lib.Ieee.{Float}
 use Rattle.sequences.specs.Pick.{picked, passed, by-case}
 use Rattle.state.specs.declared.Clock.{Clock}
-use Rattle.state.specs.State.{grown}
+use Rattle.floats.specs.Word.{grown}
 use Rattle.floats.specs.Names.{add64}
 use Rattle.engine.specs.Sample.{referenceNow, glidedOf}
 use Rattle.engine.specs.declared.waiting.Starts.{Starts}

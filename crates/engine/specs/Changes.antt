@@ -6,6 +6,7 @@ use lib.Dec.{eqb}
 use lib.ListN.{getD}
 use lib.Ieee.{Float, binary64, toUnsigned, le, eq}
 use lib.Ieee.Scale.{finite}
+use Rattle.floats.specs.Word.{grown}
 use Rattle.sequences.specs.Pick.{pick}
 use Rattle.floats.specs.Names.{f64}
 use Rattle.floats.specs.Remainder.{remEuclid}
@@ -18,14 +19,14 @@ use Rattle.settings.specs.declared.Shape.{Shape}
 use Rattle.settings.specs.declared.Shape.the-variants.{Sprinkle, Cloud}
 use Rattle.settings.specs.Settings.{isSprinkle, checkedOf}
 use Rattle.settings.specs.Mending.{mendedOf}
-use Rattle.sources.specs.Sources.{sameFlag}
+use Rattle.sources.specs.Sources.{sameFlag, noSlot}
 use Rattle.timing.specs.declared.SprinkleStream.{SprinkleStream}
-use Rattle.timing.specs.Streams.{preparedOf, alignedAll, referenceOf}
+use Rattle.timing.specs.Streams.{preparedStream, alignedAll, referenceOf}
 use Rattle.state.specs.declared.Clock.{Clock}
 use Rattle.state.specs.declared.Done.{Done}
 use Rattle.state.specs.declared.Engine.{Engine}
 use Rattle.state.specs.declared.Next.{Next}
-use Rattle.state.specs.State.{grown, taken, refused, withClock, withConfig, withNext, withParticles, withStreams, withWeights, pastStream}
+use Rattle.state.specs.State.{taken, refused, withClock, withConfig, withNext, withParticles, withStreams, withWeights, pastStream}
 use Rattle.state.specs.Make.{weightsOf}
 use Rattle.engine.specs.Sample.{referenceNow}
 
@@ -68,7 +69,7 @@ enters old c = pick (isSprinkle (c .shape)) (pick (isSprinkle (old .shape)) (pic
 
 -- for (lane, stream) in self.streams.iter_mut().enumerate() { stream.prepare(lane, config.sync); }
 unfoldable pub preparedAt : List SprinkleStream → ℕ → Bool → SprinkleStream
-preparedAt streams lane sync = preparedOf (getD streams lane pastStream .index) lane sync
+preparedAt streams lane sync = preparedStream (getD streams lane pastStream .index) lane sync
 
 unfoldable pub preparedAll : List SprinkleStream → Bool → List SprinkleStream
 preparedAll streams sync = preparedAt streams 0 sync ∷ preparedAt streams 1 sync ∷ preparedAt streams 2 sync ∷ []
@@ -123,7 +124,7 @@ soughtNext e k =
     record {
       opportunity = soughtOpportunity (k .phase) (referenceNow k);
       «immediate_index» = 0;
-      «last_source» = 256;
+      «last_source» = noSlot;
       «note_input_present» = e .next .«note_input_present»;
     }
 

@@ -3,6 +3,8 @@ use Prim.Native.Nat.{ℕ}
 use mathlib.Core.Bool.{cond}
 use lib.ListN.{getD, set}
 use lib.Ieee.{Float, binary64, toUnsigned, lt, le}
+use Rattle.sources.specs.Sources.{noSlot}
+use Rattle.floats.specs.Word.{grown}
 use Rattle.sequences.specs.Pick.{pick}
 use Rattle.floats.specs.Names.{f64, add64, sub64, mul64, div64}
 use Rattle.floats.specs.Choose.{max}
@@ -16,7 +18,7 @@ use Rattle.timing.specs.Streams.{larger, movedOf, referenceOf}
 use Rattle.state.specs.declared.Clock.{Clock}
 use Rattle.state.specs.declared.Engine.{Engine}
 use Rattle.state.specs.declared.Next.{Next}
-use Rattle.state.specs.State.{grown, withClock, withNext, withStreams, pastStream}
+use Rattle.state.specs.State.{withClock, withNext, withStreams, pastStream}
 use Rattle.births.specs.Birth.{bornOf}
 
 -- ---- Sprinkle
@@ -28,7 +30,7 @@ moved e lane reference s = withStreams e (set (e .streams) lane (movedOf (s .ind
 abbrev pub triedWith : Engine → ℕ → Float → SprinkleStream → Engine
 triedWith e lane reference s =
     let out = moved e lane reference s in
-    pick (lt reference (s .next)) e (pick (s .emit) (pick (e .config .enabled) (bornOf out (keyOf lane (s .index)) 256) out) out)
+    pick (lt reference (s .next)) e (pick (s .emit) (pick (e .config .enabled) (bornOf out (keyOf lane (s .index)) noSlot) out) out)
 
 unfoldable pub triedOf : Engine → ℕ → Float → Engine
 triedOf e lane reference = triedWith e lane reference (getD (e .streams) lane pastStream)
@@ -60,7 +62,7 @@ unfoldable pub cloudOf : Engine → Float → Engine
 cloudOf e reference =
     let index = e .next .opportunity in
     let out = withNext e (withOpportunity (e .next) (opportunityAfter index reference)) in
-    pick (le (referenceOf index) reference) (pick (e .config .enabled) (bornOf out index 256) out) e
+    pick (le (referenceOf index) reference) (pick (e .config .enabled) (bornOf out index noSlot) out) e
 
 -- ---- one sample
 abbrev pub referenceNow : Clock → Float

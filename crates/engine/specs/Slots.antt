@@ -7,27 +7,27 @@ use Rattle.sequences.specs.Pick.{pick}
 use Rattle.pool.specs.Pool.{retireBoundOne, retuneOne}
 use Rattle.refusals.specs.declared.Refusal.the-variants.{Slot}
 use Rattle.sources.specs.declared.Source.{Source}
-use Rattle.sources.specs.Sources.{noSource, same, isPitched, releasedOf}
+use Rattle.sources.specs.Sources.{noSource, same, isPitched, releasedOf, maxSources}
 use Rattle.state.specs.declared.Done.{Done}
 use Rattle.state.specs.declared.Engine.{Engine}
 use Rattle.state.specs.State.{taken, refused, withParticles, withSources, pastSource}
 
--- a slot from 256 up is refused
+-- a slot from `maxSources` up is refused
 abbrev pub slotted : ℕ → Engine → Engine → Done
-slotted slot e out = pick (ltb slot 256) (taken out) (refused Slot e)
+slotted slot e out = pick (ltb slot maxSources) (taken out) (refused Slot e)
 
 abbrev pub withSource : Engine → ℕ → Source → Engine
 withSource e slot s = withSources e (set (e .sources) slot s)
 
 -- self.sources[slot] = source; if source.frequency_hz.is_finite() && source.frequency_hz > 0.0 { .. }
-unfoldable pub placedOf : Engine → ℕ → Source → Engine
-placedOf e slot s =
+unfoldable pub suppliedOf : Engine → ℕ → Source → Engine
+suppliedOf e slot s =
     pick (isPitched (s .«frequency_hz»)) (withParticles (withSource e slot s) (map (retuneOne slot (s .«frequency_hz»)) (e .particles)))
     (withSource e slot s)
 
 -- if self.sources[slot] == source { return; }
 unfoldable pub setSourceOf : Engine → ℕ → Source → Done
-setSourceOf e slot s = slotted slot e (pick (same (getD (e .sources) slot pastSource) s) e (placedOf e slot s))
+setSourceOf e slot s = slotted slot e (pick (same (getD (e .sources) slot pastSource) s) e (suppliedOf e slot s))
 
 unfoldable pub retireSourceOf : Engine → ℕ → Done
 retireSourceOf e slot =

@@ -4,18 +4,19 @@ use mathlib.Core.Bool.{Bool, false}
 use lib.Bits.{bitXor}
 use lib.Dec.{eqb, ltb}
 use lib.ListN.{getD}
+use Rattle.floats.specs.Word.{grown}
 use Rattle.sequences.specs.Pick.{pick}
 use Rattle.refusals.specs.declared.Refusal.the-variants.{Slot}
 use Rattle.refusals.specs.Numbers.{numberOf}
 use Rattle.settings.specs.Settings.{isSprinkle}
-use Rattle.sources.specs.Sources.{isEligible}
+use Rattle.sources.specs.Sources.{isEligible, maxSources}
 use Rattle.state.specs.declared.Engine.{Engine}
 use Rattle.state.specs.declared.Next.{Next}
 use Rattle.engine.specs.declared.triggers.Outcome.{Outcome}
 use Rattle.engine.specs.declared.triggers.Outcome.the-variants.{Born, NotEligible, Dropped, Refused}
 use Rattle.engine.specs.declared.triggers.Reserved.{Reserved}
 use Rattle.engine.specs.declared.triggers.Triggered.{Triggered}
-use Rattle.state.specs.State.{grown, withNext, pastSource}
+use Rattle.state.specs.State.{withNext, pastSource}
 use Rattle.births.specs.Birth.{bornOf}
 
 -- 01's number of an outcome: 0 unless it is a refusal
@@ -53,7 +54,7 @@ outcomeOf e out = pick (eqb (out .tally .dropped) (e .tally .dropped)) (told Bor
 -- self.birth(index ^ (1 << 63), Some(slot))
 unfoldable pub triggeredBy : Engine → ℕ → ℕ → Triggered
 triggeredBy e slot index =
-    pick (ltb slot 256)
+    pick (ltb slot maxSources)
     (pick (isPermitted e slot) (outcomeOf e (bornOf e (bitXor index (2 ^ 63)) slot)) (told NotEligible e))
     (told (Refused Slot) e)
 

@@ -1,10 +1,11 @@
 -- When the next starts are, whether one is due, and the clock after samples at which none is. Definitions only.
 use Prim.Native.Nat.{ℕ, zero, suc, _+_, _-_, _≤_}
 use mathlib.Core.Path.{_≡_}
-use mathlib.Core.Bool.{Bool, true, false, cond}
+use mathlib.Core.Bool.{Bool, false, cond}
 use mathlib.Core.List.{List}
 use lib.ListN.{getD}
 use lib.Ieee.{Float, lt}
+use Rattle.floats.specs.Word.{grown}
 use Rattle.sequences.specs.Pick.{pick}
 use Rattle.floats.specs.Names.{f64, add64, div64}
 use Rattle.settings.specs.declared.Config.{Config}
@@ -14,7 +15,7 @@ use Rattle.timing.specs.declared.SprinkleStream.{SprinkleStream}
 use Rattle.timing.specs.Streams.{referenceOf}
 use Rattle.state.specs.declared.Clock.{Clock}
 use Rattle.state.specs.declared.Engine.{Engine}
-use Rattle.state.specs.State.{grown, pastStream}
+use Rattle.state.specs.State.{pastStream}
 use Rattle.engine.specs.Sample.{referenceNow, glidedOf}
 use Rattle.engine.specs.declared.waiting.Starts.{Starts}
 use Rattle.engine.specs.declared.waiting.Tempo.{Tempo}

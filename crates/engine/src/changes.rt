@@ -11,6 +11,7 @@ use state::Clock;
 use state::Done;
 use state::Engine;
 use state::Next;
+use timing::SPRINKLE_STREAMS;
 use timing::SprinkleStream;
 
 fn same_shape(a: Shape, b: Shape) -> bool
@@ -104,7 +105,10 @@ fn enters_sprinkle(before: Config, after: Config) -> bool
     }
 }
 
-fn prepare_streams(streams: [SprinkleStream; 3], sync: bool) -> [SprinkleStream; 3]
+fn prepare_streams(
+    streams: [SprinkleStream; SPRINKLE_STREAMS],
+    sync: bool,
+) -> [SprinkleStream; SPRINKLE_STREAMS]
     ensures { λ r. ⌜ r ≡ preparedAll streams sync ⌝ }
 {
     let a = streams[0];
@@ -218,7 +222,7 @@ pub fn seek(engine: Engine, cycles: f64) -> Engine
     let next = Next {
         opportunity: sought_opportunity(phase, phase + phase_offset),
         immediate_index: 0,
-        last_source: sources::MAX_SOURCES,
+        last_source: sources::NO_SOURCE,
         note_input_present: engine.next.note_input_present,
     };
     let mut out = retired;

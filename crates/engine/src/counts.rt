@@ -1,5 +1,4 @@
-// The engine's calls that deliver no sample and change no setting: a new engine, a reset one, and its
-// two counts.
+// The engine's two counts: samples that have gone by, and places that are held.
 ghost use mathlib.Core.Path.{_≡_};
 use state::Engine;
 

@@ -1,30 +1,15 @@
 // A new engine, and a reset one.
 ghost use mathlib.Core.Path.{_≡_};
-ghost use Rattle.settings.specs.Settings.{lawfulRate};
 ghost use Rattle.engine.specs.New.{newEngineOf, resetOf};
 use refusals::Answer;
 use refusals::Refusal;
 use state::Done;
 use state::Engine;
 
-fn lawful(sample_rate: f32) -> bool
-    ensures { λ r. ⌜ r ≡ lawfulRate «sample_rate» ⌝ }
-{
-    if floats::is_finite32(sample_rate) {
-        if sample_rate >= 8000.0 {
-            sample_rate <= 384000.0
-        } else {
-            false
-        }
-    } else {
-        false
-    }
-}
-
 pub fn new_engine(sample_rate: f32) -> Done
     ensures { λ r. ⌜ r ≡ newEngineOf «sample_rate» ⌝ }
 {
-    if lawful(sample_rate) {
+    if settings::lawful_rate(sample_rate) {
         return Done {
             answer: Answer::Taken,
             engine: state::from_prepared(state::prepare(sample_rate)),

@@ -32,7 +32,7 @@ pub fn lanes(engine: Engine, reference: f64) -> Engine
             out.streams[lane] = moved;
             if sounds(stream.emit, out.config.enabled) {
                 let key = draws::sprinkle_key(lane, stream.index);
-                let arrival = births::birth(out, key, sources::MAX_SOURCES);
+                let arrival = births::birth(out, key, sources::NO_SOURCE);
                 let particle = arrival.particle;
                 let tally = arrival.tally;
                 let place = arrival.place;
@@ -69,7 +69,7 @@ pub fn cloud(engine: Engine, reference: f64) -> Engine
         let mut out = engine;
         out.next.opportunity = after;
         if config.enabled {
-            let arrival = births::birth(out, index, sources::MAX_SOURCES);
+            let arrival = births::birth(out, index, sources::NO_SOURCE);
             let particle = arrival.particle;
             let tally = arrival.tally;
             let place = arrival.place;

@@ -1,15 +1,16 @@
-// The calls on one of the 256 source slots.
+// The calls on one of the source slots.
 ghost use mathlib.Core.Path.{_≡_};
 ghost use Prim.Native.Nat.{_<_};
-ghost use Rattle.engine.specs.Slots.{placedOf, setSourceOf, retireSourceOf, releaseSourceOf};
+ghost use Rattle.engine.specs.Slots.{suppliedOf, setSourceOf, retireSourceOf, releaseSourceOf};
 use refusals::Refusal;
+use sources::MAX_SOURCES;
 use sources::Source;
 use state::Done;
 use state::Engine;
 
 fn place_source(engine: Engine, slot: usize, source: Source) -> Engine
     requires { ⌜ slot < 256 ⌝ }
-    ensures { λ r. ⌜ r ≡ placedOf engine slot source ⌝ }
+    ensures { λ r. ⌜ r ≡ suppliedOf engine slot source ⌝ }
 {
     let mut out = engine;
     out.sources[slot] = source;
@@ -25,7 +26,7 @@ fn place_source(engine: Engine, slot: usize, source: Source) -> Engine
 pub fn set_source(engine: Engine, slot: usize, source: Source) -> Done
     ensures { λ r. ⌜ r ≡ setSourceOf engine slot source ⌝ }
 {
-    if slot >= 256 {
+    if slot >= MAX_SOURCES {
         return state::refuse(engine, Refusal::Slot);
     }
     let old = engine.sources[slot];
@@ -39,7 +40,7 @@ pub fn set_source(engine: Engine, slot: usize, source: Source) -> Done
 pub fn retire_source(engine: Engine, slot: usize) -> Done
     ensures { λ r. ⌜ r ≡ retireSourceOf engine slot ⌝ }
 {
-    if slot >= 256 {
+    if slot >= MAX_SOURCES {
         return state::refuse(engine, Refusal::Slot);
     }
     let none = sources::no_source();
@@ -55,7 +56,7 @@ pub fn retire_source(engine: Engine, slot: usize) -> Done
 pub fn release_source(engine: Engine, slot: usize) -> Done
     ensures { λ r. ⌜ r ≡ releaseSourceOf engine slot ⌝ }
 {
-    if slot >= 256 {
+    if slot >= MAX_SOURCES {
         return state::refuse(engine, Refusal::Slot);
     }
     let old = engine.sources[slot];

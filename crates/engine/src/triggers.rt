@@ -70,7 +70,7 @@ fn fire(engine: Engine, slot: usize, index: u64, after: u64) -> Triggered
     let mut out = engine;
     out.next.immediate_index = after;
     let mut outcome = Outcome::Refused(Refusal::Slot);
-    if slot < 256 {
+    if slot < sources::MAX_SOURCES {
         let config = out.config;
         let source = out.sources[slot];
         outcome = Outcome::NotEligible;

@@ -8,6 +8,7 @@ use crate::sample;
 use settings::Config;
 use settings::Shape;
 use state::Clock;
+use timing::SPRINKLE_STREAMS;
 use timing::SprinkleStream;
 
 // The next starts, in cycles of the Rate clock: one for each lane, or three times the Cloud's.
@@ -42,7 +43,11 @@ fn starts_at(first: f64, second: f64, third: f64) -> Starts
 }
 
 // Where no birth is scheduled no start is ever due.
-pub fn next_starts(config: Config, streams: [SprinkleStream; 3], opportunity: u64) -> Starts
+pub fn next_starts(
+    config: Config,
+    streams: [SprinkleStream; SPRINKLE_STREAMS],
+    opportunity: u64,
+) -> Starts
     ensures { λ r. ⌜ r ≡ startsOf (config .scheduled) (config .shape) streams opportunity ⌝ }
 {
     let shape = config.shape;

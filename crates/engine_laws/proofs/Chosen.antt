@@ -11,6 +11,7 @@ use lib.Dec.{ltb, eqb}
 use lib.ListN.{length, getD, set, length-set}
 use lib.Pow.{pow-pos}
 use lib.Ieee.{Float}
+use Rattle.floats.specs.Word.{grown}
 use Rattle.sequences.specs.Pick.{pick, either}
 use Rattle.pool.specs.declared.Particle.{Particle}
 use Rattle.sources.specs.declared.Source.{Source}
@@ -19,13 +20,13 @@ use Rattle.sources.specs.Choosing.{isAlternative, nthFrom, alternativesOf, choi
 use Rattle.state.specs.declared.Engine.{Engine}
 use Rattle.state.specs.declared.Next.{Next}
 use Rattle.state.specs.declared.Tally.{Tally}
-use Rattle.state.specs.State.{grown, withNext, withParticles, withTally, pastSource}
-use Rattle.draws.proofs.Unit.{mix-lt}
+use Rattle.state.specs.State.{withNext, withParticles, withTally, pastSource}
+use Rattle.draws.proofs.Drawn.{mix-lt}
 use Rattle.births.specs.Births.{newbornOf}
 use Rattle.state.specs.Tallies.{droppedOne, hashOf, bornOne}
 use Rattle.births.specs.Birth.{chosenFor, withLast, triedOne, newbornFor, admittedOf, attemptedOf, bornOf}
 use Rattle.sequences.specs.Every.{Every, every-set, in-case}
-use Rattle.engine_laws.proofs.Sound.{Sound, Fit, Held, Counted, Sounding, engine-newborn}
+use Rattle.engine_laws.proofs.Sound.{Sound, Fit, FitPlace, Counted, Sounding, engine-newborn}
 
 -- ---- the slot
 nth-most : (last i : ℕ) (ss : List Source) (n : ℕ) → nthFrom last i ss n ≤ i + length ss
@@ -117,7 +118,7 @@ sound-tally e t s h c =
       counted = c;
     }
 
-pub sound-particles : (e : Engine) (ps : List Particle) → Sound e → length ps ≡ 64 → Every (Held (e .clock .sample)) ps → Sound (withParticles e ps)
+pub sound-particles : (e : Engine) (ps : List Particle) → Sound e → length ps ≡ 64 → Every (FitPlace (e .clock .sample)) ps → Sound (withParticles e ps)
 sound-particles e ps s l h =
     record {
       made = s .made;
@@ -154,7 +155,7 @@ unfolding bornOne
 born-attempts t index sample p = refl
 
 -- ---- the birth
-newborn-held : (e : Engine) (index slot : ℕ) → Sound e → slot ≤ 256 → Sounding (e .sources) slot → Held (e .clock .sample) (newbornFor e index slot)
+newborn-held : (e : Engine) (index slot : ℕ) → Sound e → slot ≤ 256 → Sounding (e .sources) slot → FitPlace (e .clock .sample) (newbornFor e index slot)
 unfolding newbornFor newbornOf
 newborn-held e index slot s h o = (λ a. engine-newborn e index slot s h o, λ a. absurd (true≢false a))
 
@@ -169,7 +170,7 @@ sound-admitted e index slot s h o =
     either Sound _ _ _
     (sound-tally (withParticles e (set (e .particles) _ p)) (bornOne (e .tally) index (e .clock .sample) p)
     (sound-particles e (set (e .particles) _ p) s (length-set (e .particles) _ _ ∙ s .places)
-    (every-set (Held (e .clock .sample)) (e .particles) _ p (newborn-held e index slot s h o) (s .held)))
+    (every-set (FitPlace (e .clock .sample)) (e .particles) _ p (newborn-held e index slot s h o) (s .held)))
     (le-trans (le-of-eq (born-attempts (e .tally) index (e .clock .sample) p)) (s .tried)) (counted-born (e .tally) index (e .clock .sample) p (s .counted)))
     (sound-tally e _ s (s .tried) (counted-dropped (e .tally) (s .counted)))
 

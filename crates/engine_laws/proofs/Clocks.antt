@@ -16,7 +16,7 @@ use Rattle.floats.specs.Names.{f64, add64, sub64, mul64, div64}
 use Rattle.floats.specs.Remainder.{remEuclid}
 use Rattle.floats_laws.proofs.Rules.{finite-number, add-number, between-finite}
 use Rattle.floats_laws.proofs.Rising.{nought, sub-rises}
-use Rattle.floats_laws.proofs.Unit.{from-round}
+use Rattle.floats_laws.proofs.Proportions.{from-round}
 use Rattle.floats_laws.proofs.Mag.{Mag, Upto, mag-finite, mag-more, mag-le, le-upto}
 use Rattle.floats_laws.proofs.Bounds.{add-mag, sub-mag}
 use Rattle.floats_laws.proofs.Powers.{add-power}

@@ -7,12 +7,12 @@ use lib.Dec.{T}
 use lib.ListN.{length, getD, length-map}
 use lib.Ieee.{Float, binary32, fits, ofBits}
 use Rattle.sequences.specs.Pick.{either, by-case}
-use Rattle.floats_laws.proofs.Unit.{Unit, nought-unit}
-use Rattle.births.specs.Voices.{maxHzOf}
+use Rattle.floats_laws.proofs.Proportions.{Proportion, nought-unit}
+use Rattle.pitch.specs.Highest.{maxHzOf}
 use Rattle.pool.specs.declared.Particle.{Particle}
 use Rattle.pool.specs.Pool.{freeParticle}
 use Rattle.windows.specs.declared.Window.{Window}
-use Rattle.windows.specs.Opening.{none, emptyFrame}
+use Rattle.windows.specs.Opening.{emptyWindow, emptyFrame}
 use Rattle.frame.specs.declared.Framed.{Framed}
 use Rattle.frame.specs.declared.places.Shown.{Shown}
 use Rattle.frame.specs.Freed.{sweepOne}
@@ -29,28 +29,28 @@ use Rattle.state.specs.declared.Engine.{Engine}
 use Rattle.state.specs.declared.Prepared.{Prepared}
 use Rattle.state.specs.Make.{partialLogs, preparedOf}
 use Rattle.sequences.specs.Every.{Every, every-map, every-at, in-case}
-use Rattle.engine_laws.proofs.Sound.{Held, Sound}
+use Rattle.engine_laws.proofs.Sound.{FitPlace, Sound}
 
 -- ---- what is left is held
-pub free-held : (now : ℕ) → Held now freeParticle
+pub free-held : (now : ℕ) → FitPlace now freeParticle
 unfolding freeParticle
 free-held now = (λ a. absurd (true≢false (sym a)), λ a. refl)
 
-held-swept : (now : ℕ) (rate : Float) (p : Particle) → Held now p → Held now (sweepOne now rate p)
+held-swept : (now : ℕ) (rate : Float) (p : Particle) → FitPlace now p → FitPlace now (sweepOne now rate p)
 unfolding sweepOne
-held-swept now rate p h = either (Held now) _ _ _ (either (Held now) _ _ _ (free-held now) h) h
+held-swept now rate p h = either (FitPlace now) _ _ _ (either (FitPlace now) _ _ _ (free-held now) h) h
 
-all-held : (e : Engine) → Sound e → Every (Held (e .clock .sample)) (heldOf e)
+all-held : (e : Engine) → Sound e → Every (FitPlace (e .clock .sample)) (heldOf e)
 unfolding heldOf
 all-held e s =
-    every-map (Held (e .clock .sample)) (Held (e .clock .sample)) _ (held-swept (e .clock .sample) (e .prepared .«sample_rate»)) (e .particles) (s .held)
+    every-map (FitPlace (e .clock .sample)) (FitPlace (e .clock .sample)) _ (held-swept (e .clock .sample) (e .prepared .«sample_rate»)) (e .particles) (s .held)
 
 all-places : (e : Engine) → Sound e → length (heldOf e) ≡ 64
 unfolding heldOf
 all-places e s = length-map (e .particles) _ ∙ s .places
 
 -- ---- the engine
-pub sound-renewed : (e : Engine) (activity : Float) → Unit activity → Sound e → Sound (renewedOf e (heldOf e) (freedOf e) activity)
+pub sound-renewed : (e : Engine) (activity : Float) → Proportion activity → Sound e → Sound (renewedOf e (heldOf e) (freedOf e) activity)
 unfolding renewedOf
 sound-renewed e activity u s =
     record {
@@ -72,26 +72,20 @@ sound-renewed e activity u s =
 pub yes : (b : Bool) → b ≡ true → T b
 yes b e = subst T (sym e) tt
 
-pub sound-framed : (e : Engine) (binHz seconds : Float) → T (fits binary32 seconds) → Sound e → Sound (framedOf e binHz seconds .engine)
-unfolding framedOf takenOf refusedOf
-sound-framed e binHz seconds f s =
-    in-case (λ (r : Framed). Sound (r .engine)) (accepted seconds) _ _
-    (λ q. sound-renewed e _ (activity-unit (e .activity) (e .config .enabled) seconds f (yes (accepted seconds) q) (s .active)) s) (λ q. s)
-
 -- ---- the activity that is shown
-nothing-active : Unit (emptyFrame .activity)
+nothing-active : Proportion (emptyFrame .activity)
 unfolding ofBits
 nothing-active = nought-unit
 
-pub frame-active : (e : Engine) (binHz seconds : Float) → T (fits binary32 seconds) → Sound e → Unit (framedOf e binHz seconds .frame .activity)
+pub frame-active : (e : Engine) (binHz seconds : Float) → T (fits binary32 seconds) → Sound e → Proportion (framedOf e binHz seconds .frame .activity)
 unfolding framedOf takenOf refusedOf
 frame-active e binHz seconds f s =
-    in-case (λ (r : Framed). Unit (r .frame .activity)) (accepted seconds) _ _
+    in-case (λ (r : Framed). Proportion (r .frame .activity)) (accepted seconds) _ _
     (λ q. activity-unit (e .activity) (e .config .enabled) seconds f (yes (accepted seconds) q) (s .active)) (λ q. nothing-active)
 
 -- ---- the windows that are shown
 abbrev pub EmptyOrGood : Float → Window → Type 0
-EmptyOrGood binHz w = (w ≡ none) ⊎ Good binHz w
+EmptyOrGood binHz w = (w ≡ emptyWindow) ⊎ Good binHz w
 
 module _ (e : Engine) (s : Sound e) (binHz : Float) where
   logs-are : e .prepared .«partial_logs» ≡ partialLogs
@@ -108,15 +102,15 @@ module _ (e : Engine) (s : Sound e) (binHz : Float) where
   show = shownOf (e .clock .sample) rate
 
   -- of one place
-  one : (p : Particle) → Held (e .clock .sample) p → (w : ℕ) → EmptyOrGood binHz (windowOf (e .prepared .«partial_logs») binHz (maxHzOf rate) (show p) (getD (show p .partials) w 0))
+  one : (p : Particle) → FitPlace (e .clock .sample) p → (w : ℕ) → EmptyOrGood binHz (windowOf (e .prepared .«partial_logs») binHz (maxHzOf rate) (show p) (getD (show p .partials) w 0))
   one p h w =
       by-case (p .active)
       (λ a. window-good (e .prepared .«partial_logs») logs binHz (maxHzOf rate) rate (lawful-rated rate (s .made .single) (s .made .lawful)) (e .clock .sample) p a (h .0 a .fair) (getD (show p .partials) w 0))
       (λ a. inl (free-shows-none (e .prepared .«partial_logs») binHz (maxHzOf rate) (e .clock .sample) rate p w a))
 
   -- the window of partial w of place p
-  pub window-shown : (p w : ℕ) → p < 64 → w < 3 → EmptyOrGood binHz (getD (windowsBy e binHz) (p + 64 * w) none)
+  pub window-shown : (p w : ℕ) → p < 64 → w < 3 → EmptyOrGood binHz (getD (windowsBy e binHz) (p + 64 * w) emptyWindow)
   unfolding windowsBy
   window-shown p w h k =
       let held = getD (heldOf e) p freeParticle in
-      subst (EmptyOrGood binHz) (sym (window-of-place (e .prepared .«partial_logs») binHz (maxHzOf rate) (e .clock .sample) rate (heldOf e) (all-places e s) p w freeParticle none h k)) (one held (every-at (Held (e .clock .sample)) (heldOf e) p freeParticle (subst (λ (n : ℕ). p < n) (sym (all-places e s)) h) (all-held e s)) w)
+      subst (EmptyOrGood binHz) (sym (window-of-place (e .prepared .«partial_logs») binHz (maxHzOf rate) (e .clock .sample) rate (heldOf e) (all-places e s) p w freeParticle emptyWindow h k)) (one held (every-at (FitPlace (e .clock .sample)) (heldOf e) p freeParticle (subst (λ (n : ℕ). p < n) (sym (all-places e s)) h) (all-held e s)) w)

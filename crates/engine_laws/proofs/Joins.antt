@@ -6,13 +6,14 @@ use mathlib.Core.Path.{_≡_, sym, ap, _∙_, subst}
 use mathlib.Core.Bool.{Bool, true, false, true≢false}
 use borrow.Author.Tests.{le-leb, leb-true}
 use lib.Dec.{leb}
+use Rattle.floats.specs.Word.{grown}
 use Rattle.sequences.specs.Pick.{picked, passed, by-case}
 use Rattle.sequences.specs.Times.{iterate, iterate-add}
 use Rattle.refusals.specs.declared.Answer.{Answer}
 use Rattle.refusals.specs.declared.Answer.the-variants.{Taken, Refused}
 use Rattle.state.specs.declared.Done.{Done}
 use Rattle.state.specs.declared.Engine.{Engine}
-use Rattle.state.specs.State.{grown, taken}
+use Rattle.state.specs.State.{taken}
 use Rattle.engine.specs.Sample.{steppedOf}
 use Rattle.engine.specs.Advance.{advancedOf}
 use Rattle.engine.proofs.Untouched.{stepped-sample}
@@ -33,9 +34,9 @@ isTaken Taken = true
 isTaken (Refused r) = false
 
 -- accepted only where the sum stays inside 2 ^ 40
-pub accepted : (e : Engine) (n : ℕ) → advancedOf e n .answer ≡ Taken → e .clock .sample + n ≤ 2 ^ 40
+pub taken-within : (e : Engine) (n : ℕ) → advancedOf e n .answer ≡ Taken → e .clock .sample + n ≤ 2 ^ 40
 unfolding advancedOf
-accepted e n h =
+taken-within e n h =
     by-case (leb (e .clock .sample + n) (2 ^ 40)) (λ q. leb-true _ _ q)
     (λ q. absurd (true≢false (sym (ap isTaken (ap (λ (d : Done). d .answer) (passed _ _ _ q) ∙ h)))))
 
@@ -47,11 +48,11 @@ inside e n h = sym (picked _ _ _ (le-leb _ _ h))
 pub advance-joins : (e : Engine) (m n : ℕ) → advancedOf e m .answer ≡ Taken → advancedOf (advancedOf e m .engine) n .answer ≡ Taken
     → advancedOf (advancedOf e m .engine) n ≡ advancedOf e (m + n)
 advance-joins e m n a b =
-    let h = accepted e m a in
+    let h = taken-within e m a in
     let first = inside e m h in
     let after : advancedOf e m .engine ≡ iterate steppedOf m e = ap (λ (d : Done). d .engine) first in
     let k = steps-count m e h in
-    let i : iterate steppedOf m e .clock .sample + n ≤ 2 ^ 40 = accepted (iterate steppedOf m e) n (subst (λ (x : Engine). advancedOf x n .answer ≡ Taken) after b) in
+    let i : iterate steppedOf m e .clock .sample + n ≤ 2 ^ 40 = taken-within (iterate steppedOf m e) n (subst (λ (x : Engine). advancedOf x n .answer ≡ Taken) after b) in
     ap (λ (x : Engine). advancedOf x n) after
     ∙ inside (iterate steppedOf m e) n i
     ∙ ap taken (iterate-add steppedOf m n e)

@@ -14,7 +14,7 @@ use Rattle.pool.specs.declared.Retired.{Retired}
 use Rattle.pool.specs.declared.Retired.the-variants.{Not, At}
 use Rattle.pool.specs.Pool.{firstOf, retiredOf, retireOne, retireBoundOne, retunedOf, retuneOne}
 use Rattle.frame_laws.proofs.Windowed.{Fair}
-use Rattle.engine_laws.proofs.Sound.{Fit, Held}
+use Rattle.engine_laws.proofs.Sound.{Fit, FitPlace}
 
 at-of : (a b : ℕ) → At a ≡ At b → a ≡ b
 at-of a b p = ap (λ (r : Retired). firstOf r 0) p
@@ -97,17 +97,17 @@ fit-retired now p f =
     }
 
 -- what is retired was held
-held-retired : (now : ℕ) (p : Particle) → p .active ≡ true → Held now p → Held now (retiredOf now p)
+held-retired : (now : ℕ) (p : Particle) → p .active ≡ true → FitPlace now p → FitPlace now (retiredOf now p)
 unfolding retiredOf
 held-retired now p q f = (λ a. fit-retired now p (f .0 q), λ a. absurd (true≢false (sym q ∙ a)))
 
-pub held-retire-one : (now : ℕ) (p : Particle) → Held now p → Held now (retireOne now p)
+pub held-retire-one : (now : ℕ) (p : Particle) → FitPlace now p → FitPlace now (retireOne now p)
 unfolding retireOne
-held-retire-one now p f = in-case (Held now) (p .active) _ _ (λ q. held-retired now p q f) (λ q. f)
+held-retire-one now p f = in-case (FitPlace now) (p .active) _ _ (λ q. held-retired now p q f) (λ q. f)
 
-pub held-retire-bound : (slot now : ℕ) (p : Particle) → Held now p → Held now (retireBoundOne slot now p)
+pub held-retire-bound : (slot now : ℕ) (p : Particle) → FitPlace now p → FitPlace now (retireBoundOne slot now p)
 unfolding retireBoundOne
-held-retire-bound slot now p f = in-case (Held now) (p .active) _ _ (λ q. either (Held now) _ _ _ (held-retired now p q f) f) (λ q. f)
+held-retire-bound slot now p f = in-case (FitPlace now) (p .active) _ _ (λ q. either (FitPlace now) _ _ _ (held-retired now p q f) f) (λ q. f)
 
 fit-retuned : (now : ℕ) (hz : Float) (p : Particle) → T (fits binary32 hz) → T (lt nought hz) × T (finite hz) → Fit now p → Fit now (retunedOf hz p)
 unfolding retunedOf
@@ -126,10 +126,10 @@ fit-retuned now hz p h k s =
       power = s .power;
     }
 
-held-retuned : (now : ℕ) (hz : Float) (p : Particle) → p .active ≡ true → T (fits binary32 hz) → T (lt nought hz) × T (finite hz) → Held now p → Held now (retunedOf hz p)
+held-retuned : (now : ℕ) (hz : Float) (p : Particle) → p .active ≡ true → T (fits binary32 hz) → T (lt nought hz) × T (finite hz) → FitPlace now p → FitPlace now (retunedOf hz p)
 unfolding retunedOf
 held-retuned now hz p q h k f = (λ a. fit-retuned now hz p h k (f .0 q), λ a. absurd (true≢false (sym q ∙ a)))
 
-pub held-retune-one : (slot now : ℕ) (hz : Float) → T (fits binary32 hz) → T (lt nought hz) × T (finite hz) → (p : Particle) → Held now p → Held now (retuneOne slot hz p)
+pub held-retune-one : (slot now : ℕ) (hz : Float) → T (fits binary32 hz) → T (lt nought hz) × T (finite hz) → (p : Particle) → FitPlace now p → FitPlace now (retuneOne slot hz p)
 unfolding retuneOne
-held-retune-one slot now hz h k p f = in-case (Held now) (p .active) _ _ (λ q. either (Held now) _ _ _ (held-retuned now hz p q h k f) f) (λ q. f)
+held-retune-one slot now hz h k p f = in-case (FitPlace now) (p .active) _ _ (λ q. either (FitPlace now) _ _ _ (held-retuned now hz p q h k f) f) (λ q. f)

@@ -12,7 +12,7 @@ use lib.Ieee.{Float, nan, inf, fin, binary32, eq, fits, ofBits}
 use lib.Ieee.Bits.{ofBits-fits}
 use Rattle.sequences.specs.Pick.{by-case}
 use Rattle.sequences.specs.Every.{every-imp, in-case}
-use Rattle.floats.specs.Names.{f32, nil, one}
+use Rattle.floats.specs.Names.{f32, zero32, one}
 use Rattle.pool.specs.declared.Particle.{Particle}
 use Rattle.settings.specs.declared.Config.{Config}
 use Rattle.settings.specs.Settings.{maxHop}
@@ -28,10 +28,10 @@ use Rattle.state.specs.declared.Prepared.{Prepared}
 use Rattle.state.specs.Make.{partialLogs, weightsOf, preparedOf}
 use Rattle.engine_laws.specs.Lawful.{LawfulSettings, LawfulStream, LawfulParticle, LawfulPlace, LawfulSource, Lawful}
 use Rattle.engine_laws.specs.Acts.{Singles}
-use Rattle.engine_laws.proofs.Sound.{Fit, Held, Settled, Sound}
+use Rattle.engine_laws.proofs.Sound.{Fit, FitPlace, Settled, Sound}
 use Rattle.engine_laws.proofs.Ranged.{Ranged}
 use Rattle.engine_laws.proofs.Numbered.{Numbered}
-use Rattle.engine_laws.proofs.Voices.{Formed}
+use Rattle.engine_laws.proofs.Voices.{FormedSource}
 use Rattle.engine_laws.proofs.Weighed.{Weighed}
 use Rattle.floats_laws.proofs.Level.{level}
 
@@ -60,13 +60,13 @@ module _ (a : Config) (g : Singles a) where
   abbrev d : Config
   d = mendedOf a
 
-  whole-phased : eq (d .phase) one ≡ true → (d .phase ≡ one) × (mendedOf d ≡ withPhase nil d)
+  whole-phased : eq (d .phase) one ≡ true → (d .phase ≡ one) × (mendedOf d ≡ withPhase zero32 d)
   unfolding mendedOf
   whole-phased q =
       let e = level-one (phaseOf (a .phase)) (phase-fits (a .phase) (g .phase)) q in
       (e, mended-but-phase a ∙ ap (λ (x : Float). withPhase x (mendedOf a)) (ap phaseOf e ∙ whole-phase))
 
-  mends : (mendedOf d ≡ d) ⊎ ((d .phase ≡ one) × (mendedOf d ≡ withPhase nil d))
+  mends : (mendedOf d ≡ d) ⊎ ((d .phase ≡ one) × (mendedOf d ≡ withPhase zero32 d))
   mends = by-case (eq (d .phase) one) (λ q. inr (whole-phased q)) (λ q. inl (mended-again a (g .phase) q))
 
 mended-settings : (a : Config) → Singles a → a .«hop_samples» ≤ maxHop → LawfulSettings (mendedOf a)
@@ -84,9 +84,9 @@ mended-settings a g h =
             rate = held-fits (a .«rate_hz») one (f32 0x3c23d70a) (f32 0x42000000) (g .rate) unit (ofBits-fits binary32 0x3c23d70a) (ofBits-fits binary32 0x42000000);
             size = held-fits (a .«size_octaves») one (f32 0x3e000000) (f32 0x41000000) (g .size) unit (ofBits-fits binary32 0x3e000000) (ofBits-fits binary32 0x41000000);
             phase = phase-fits (a .phase) (g .phase);
-            rolloff = held-fits (a .«partial_rolloff_db») (f32 0x40c00000) nil (f32 0x41c00000) (g .rolloff) (ofBits-fits binary32 0x40c00000) zero (ofBits-fits binary32 0x41c00000);
-            attack = held-fits (a .«attack_ms») nil nil (f32 0x459c4000) (g .attack) zero zero most;
-            release = held-fits (a .«release_ms») (f32 0x428c0000) nil (f32 0x459c4000) (g .release) (ofBits-fits binary32 0x428c0000) zero most;
+            rolloff = held-fits (a .«partial_rolloff_db») (f32 0x40c00000) zero32 (f32 0x41c00000) (g .rolloff) (ofBits-fits binary32 0x40c00000) zero (ofBits-fits binary32 0x41c00000);
+            attack = held-fits (a .«attack_ms») zero32 zero32 (f32 0x459c4000) (g .attack) zero zero most;
+            release = held-fits (a .«release_ms») (f32 0x428c0000) zero32 (f32 0x459c4000) (g .release) (ofBits-fits binary32 0x428c0000) zero most;
           };
     }
 
@@ -97,7 +97,7 @@ settings c h = subst LawfulSettings (sym (h .is)) (mended-settings (h .asked) (h
 stream : (s : SprinkleStream) → Streamed s → LawfulStream s
 stream s w = let h = w .most in record { index = omega (arith, h); next = streamed-finite s w; next-fits = streamed-fits s w }
 
-source : (s : Source) → Formed s → LawfulSource s
+source : (s : Source) → FormedSource s → LawfulSource s
 source s f = (f .hz, f .strength)
 
 particle : (now : ℕ) (p : Particle) → Fit now p → LawfulParticle now p
@@ -121,7 +121,7 @@ particle now p f =
       lifetime = (f .above, f .most, f .lifetime-fits);
     }
 
-at-place : (now : ℕ) (p : Particle) → Held now p → LawfulPlace now p
+at-place : (now : ℕ) (p : Particle) → FitPlace now p → LawfulPlace now p
 at-place now p h = (λ a. particle now p (h .0 a), h .1)
 
 -- THE CLAIM
@@ -151,9 +151,9 @@ lawful e s g w =
       hash = s .counted .hash;
       activity = (s .active .least, s .active .most, s .active .held);
       slots = s .slots;
-      sources = every-imp Formed LawfulSource source (e .sources) (s .formed);
+      sources = every-imp FormedSource LawfulSource source (e .sources) (s .formed);
       places = s .places;
-      particles = every-imp (Held (e .clock .sample)) (LawfulPlace (e .clock .sample)) (at-place (e .clock .sample)) (e .particles) (s .held);
+      particles = every-imp (FitPlace (e .clock .sample)) (LawfulPlace (e .clock .sample)) (at-place (e .clock .sample)) (e .particles) (s .held);
       held = w .number;
       prepared = s .made .is;
     }

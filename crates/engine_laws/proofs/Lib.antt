@@ -12,7 +12,6 @@ pub mod RangedMoments
 pub mod Rolloffs
 pub mod Sound
 pub mod Stays
-pub mod Steps
 pub mod Voices
 pub mod Weighed
 pub mod Alpha

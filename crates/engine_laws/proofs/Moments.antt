@@ -29,18 +29,17 @@ use Rattle.engine.specs.Changes.{retiredAll, reweighed, switched, offset}
 use Rattle.engine.specs.Triggers.{isPermitted, reservedOf}
 use Rattle.frame.specs.Frame.{accepted}
 use Rattle.frame_laws.proofs.Background.{activity-unit}
-use Rattle.engine_laws.specs.Acts.{Act, birth, retire, retireBound, retune, frame, source, streams, next, clock, weights, settings, act, perform, triedActs, laneActs, shapeActs, deliverActs, sampleActs, advanceActs, restartActs, weighActs, switchActs, offsetActs, configureActs, checkedActs, triggerActs, Call, configure, noteInput, setSource, retireSource, releaseSource, trigger, reserve, reserved, seek, advance, takeFrame, Singles, Typed, actsOf}
+use Rattle.engine_laws.specs.Acts.{Act, birth, retire, retireBound, retune, frame, source, streams, next, clock, weights, settings, act, perform, triedActs, laneActs, shapeActs, deliverActs, sampleActs, advanceActs, restartActs, weighActs, switchActs, offsetActs, configureActs, checkedActs, triggerActs, Call, configure, noteInput, setSource, retireSource, releaseSource, trigger, reserve, reserved, seek, advance, takeFrame, Singles, Typed, actsOf, applied}
 use Rattle.sequences.specs.Every.{every-getD, in-case}
 use Rattle.engine.proofs.Untouched.{delivered-keeps}
 use Rattle.engine_laws.proofs.Joins.{steps-count, grown-small}
 use Rattle.engine_laws.proofs.Sound.{Sound, Settled, Sounding, past-formed}
 use Rattle.engine_laws.proofs.Kept.{held-retire-bound, held-retune-one}
-use Rattle.engine_laws.proofs.Voices.{Formed, pitched-sounds}
+use Rattle.engine_laws.proofs.Voices.{FormedSource, pitched-sounds}
 use Rattle.engine_laws.proofs.Chosen.{grown-word, none-sounding, sound-next, sound-born}
-use Rattle.engine_laws.proofs.Steps.{sound-streams, sound-clock}
-use Rattle.engine_laws.proofs.Stays.{sound-config, sound-weights, sound-source, sound-mapped, sound-retired, no-source-formed, three-aligned, three-prepared, permitted-sounding}
+use Rattle.engine_laws.proofs.Stays.{sound-streams, sound-clock, sound-config, sound-weights, sound-source, sound-mapped, sound-retired, no-source-formed, three-aligned, three-prepared, permitted-sounding}
 use Rattle.engine_laws.proofs.Frames.{sound-renewed, yes}
-use Rattle.engine_laws.proofs.Performed.{tried, lane-done, deliver-done, weigh-done, switch-done, offset-done, advance-done}
+use Rattle.engine_laws.proofs.Performed.{tried, lane-done, deliver-done, weigh-done, switch-done, offset-done, advance-done, calls-are-acts}
 
 -- what is true of an act that a call makes
 abbrev pub Meant : Engine → Act → Type 0
@@ -49,7 +48,7 @@ Meant e retire = Unit {0}
 Meant e (retireBound slot) = Unit {0}
 Meant e (retune slot hz) = T (fits binary32 hz) × (T (lt nought hz) × T (finite hz))
 Meant e (frame seconds) = T (fits binary32 seconds) × (accepted seconds ≡ true)
-Meant e (source slot s) = Formed s
+Meant e (source slot s) = FormedSource s
 Meant e (streams ss) = length ss ≡ 3
 Meant e (next n) = (n .«last_source» ≤ 256) × (n .«immediate_index» < 2 ^ 64)
 Meant e (clock k) = (e .clock .sample ≤ k .sample) × (k .sample ≤ 2 ^ 40)
@@ -176,7 +175,7 @@ calls-meant e (setSource slot x) f s =
     (either (AllMeant e) _ _ _ tt (record { hz = f .0; strength = f .1 }, in-case (AllMeant _) (isPitched (x .«frequency_hz»)) _ _ (λ q. ((f .0, pitched-sounds (x .«frequency_hz») q), tt)) (λ q. tt))) tt
 calls-meant e (retireSource slot) f s = either (AllMeant e) _ _ _ (no-source-formed, (tt, tt)) tt
 calls-meant e (releaseSource slot) f s =
-    let old = every-getD Formed (e .sources) slot pastSource past-formed (s .formed) in
+    let old = every-getD FormedSource (e .sources) slot pastSource past-formed (s .formed) in
     either (AllMeant e) _ _ _ (record { hz = old .hz; strength = old .strength }, tt) tt
 calls-meant e (trigger slot) f s = ((s .last, grown-word _), trigger-meant (reservedOf e .engine) slot (e .next .«immediate_index»))
 calls-meant e reserve f s = ((s .last, grown-word _), tt)
@@ -184,3 +183,6 @@ calls-meant e (reserved slot index) f s = trigger-meant e slot index
 calls-meant e (seek cycles) f s = (tt, ((le-refl _, s .time), ((le-refl 256, pow-pos 64), (three-aligned _ (e .config .sync), tt))))
 calls-meant e (advance n) f s = in-case (AllMeant e) (leb (e .clock .sample + n) (2 ^ 40)) _ _ (λ q. advance-meant n e s (leb-true _ _ q)) (λ q. tt)
 calls-meant e (takeFrame binHz seconds) f s = in-case (AllMeant e) (accepted seconds) _ _ (λ q. ((f, q), tt)) (λ q. tt)
+
+pub sound-applied : (e : Engine) (c : Call) → Typed c → Sound e → Sound (applied e c)
+sound-applied e c t s = subst Sound (calls-are-acts e c) (sound-performed e (actsOf e c) (calls-meant e c t s) s)

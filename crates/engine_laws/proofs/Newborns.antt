@@ -18,7 +18,7 @@ use Rattle.settings.specs.declared.Config.{Config}
 use Rattle.settings.specs.declared.Direction.{Direction}
 use Rattle.settings.specs.declared.Shape.{Shape}
 use Rattle.settings.specs.declared.Shape.the-variants.{Sprinkle, Cloud}
-use Rattle.settings.specs.Envelope.{hopFloorOf, sprinkleOf, cloudOf, cloudLifetimeOf, rawOf, byShape, envelopeOf}
+use Rattle.settings.specs.Envelope.{hopFloorOf, sprinkleOf, cloudOf, cloudLifetimeOf, rawOf, byShape, contourOf}
 use Rattle.births.specs.Births.{registerBy, powerBy}
 
 abbrev pub Power : ℕ → Type 0
@@ -47,6 +47,6 @@ shape-lifetime Cloud c index floor f =
     let m = max-fits binary32 (f32 0x3d75c28f) floor (ofBits-fits binary32 0x3d75c28f) f in
     clamp-fits binary32 _ _ _ (mul-fits binary32 _ _) m (max-fits binary32 (f32 0x40800000) _ (ofBits-fits binary32 0x40800000) m)
 
-pub lifetime-fits : (c : Config) (index : ℕ) (rate : Float) → T (fits binary32 (envelopeOf c index rate .lifetime))
-unfolding envelopeOf hopFloorOf
+pub lifetime-fits : (c : Config) (index : ℕ) (rate : Float) → T (fits binary32 (contourOf c index rate .lifetime))
+unfolding contourOf hopFloorOf
 lifetime-fits c index rate = shape-lifetime (c .shape) c index _ (div-fits binary32 _ rate)

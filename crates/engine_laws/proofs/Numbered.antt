@@ -12,7 +12,7 @@ use Rattle.sequences.specs.Counts.{count-set, count-kept, count-split}
 use Rattle.sequences.specs.Every.{in-case}
 use Rattle.sequences.specs.Pick.{pick, either}
 use Rattle.sequences.specs.Walk.{walk, count-most}
-use Rattle.floats.specs.Word.{difference}
+use Rattle.floats.specs.Word.{difference, grown}
 use Rattle.pool.specs.declared.Particle.{Particle}
 use Rattle.pool.specs.Pool.{freeParticle, retiredOf, retireOne, retireBoundOne, retunedOf, retuneOne}
 use Rattle.pool.specs.Vacancies.{isHeld, activeCount, freePlace}
@@ -21,7 +21,7 @@ use Rattle.births.specs.Births.{newbornOf}
 use Rattle.state.specs.declared.Done.{Done}
 use Rattle.state.specs.declared.Engine.{Engine}
 use Rattle.state.specs.declared.Prepared.{Prepared}
-use Rattle.state.specs.State.{grown, withParticles}
+use Rattle.state.specs.State.{withParticles}
 use Rattle.state.specs.Make.{noParticles, newOn}
 use Rattle.state.specs.Tallies.{bornOne}
 use Rattle.births.specs.Birth.{newbornFor, admittedOf, attemptedOf, bornOf}

@@ -15,7 +15,7 @@ use Rattle.floats_laws.proofs.Bounds.{max-mag}
 use Rattle.floats_laws.proofs.Powers.{floor-mag}
 use Rattle.timing.specs.Streams.{larger, referenceOf}
 use Rattle.timing_laws.proofs.Due.{unsigned-most, due-opportunity}
-use Rattle.state.specs.State.{grown}
+use Rattle.floats.specs.Word.{grown}
 use Rattle.engine.specs.Sample.{opportunityAfter}
 use Rattle.engine.specs.Changes.{soughtOpportunity}
 use Rattle.engine_laws.proofs.Clocks.{Reach}

@@ -23,7 +23,7 @@ use Rattle.births.specs.Birth.{bornOf}
 use Rattle.engine.specs.Sample.{triedOf, laneOf, lanesOf, cloudOf, byShape, deliveredOf, tickedOf, steppedOf}
 use Rattle.engine.specs.Advance.{advancedOf}
 use Rattle.engine.specs.Changes.{retiredAll, aligned, reweighed, switched, offset, restarted, configuredTo, answeredBy, configuredOf, notesOf, soughtOf}
-use Rattle.engine.specs.Slots.{placedOf, setSourceOf, retireSourceOf, releaseSourceOf}
+use Rattle.engine.specs.Slots.{suppliedOf, setSourceOf, retireSourceOf, releaseSourceOf}
 use Rattle.engine.specs.Triggers.{reservedOf, isPermitted, outcomeOf, triggeredBy, triggeredOf}
 use Rattle.engine_laws.specs.Acts.{Act, act, perform, triedActs, laneActs, shapeActs, deliverActs, sampleActs, advanceActs, restartActs, weighActs, switchActs, offsetActs, configureActs, checkedActs, triggerActs, Call, actsOf, applied}
 use Rattle.engine_laws.specs.Acts as acts
@@ -136,7 +136,7 @@ abbrev framed : Framed → Engine
 framed r = r .engine
 
 pub calls-are-acts : (e : Engine) (c : Call) → perform e (actsOf e c) ≡ applied e c
-unfolding actsOf applied perform act configuredOf notesOf setSourceOf placedOf retireSourceOf releaseSourceOf triggeredOf reservedOf soughtOf retiredAll aligned advancedOf framedOf takenOf refusedOf
+unfolding actsOf applied perform act configuredOf notesOf setSourceOf suppliedOf retireSourceOf releaseSourceOf triggeredOf reservedOf soughtOf retiredAll aligned advancedOf framedOf takenOf refusedOf
 calls-are-acts e (acts.configure c) = checked-done (checkedOf c) e c
 calls-are-acts e (acts.noteInput present) = refl
 calls-are-acts e (acts.setSource slot s) = answer done e _ _ _ _ _ (choice e _ _ _ _ _ refl (choice _ _ _ _ _ _ refl refl)) refl

@@ -9,9 +9,10 @@ use lib.ListN.{getD, set}
 use lib.Ieee.{Float, binary32, binary64, ofBits, le, lt, eq, fits, isNan}
 use lib.Ieee.Bits.{is-false}
 use lib.Ieee.Fits.{fits-widens}
+use Rattle.floats.specs.Word.{grown}
 use Rattle.sequences.specs.Pick.{either}
 use Rattle.sequences.specs.Every.{Every, every-at, every-set}
-use Rattle.floats.specs.Names.{f32, f64, one}
+use Rattle.floats.specs.Names.{f32, f64, one, Double}
 use Rattle.floats_laws.proofs.Rising.{nought}
 use Rattle.floats_laws.proofs.Rules.{finite-number}
 use Rattle.floats_laws.proofs.Held.{clamp-mag, clamp-least}
@@ -30,12 +31,11 @@ use Rattle.state.specs.declared.Clock.{Clock}
 use Rattle.state.specs.declared.Engine.{Engine}
 use Rattle.state.specs.declared.Done.{Done}
 use Rattle.state.specs.declared.Prepared.{Prepared}
-use Rattle.state.specs.State.{grown, pastStream}
+use Rattle.state.specs.State.{pastStream}
 use Rattle.state.specs.Make.{preparedOf, newOn}
 use Rattle.engine.specs.New.{newEngineOf, resetOf}
 use Rattle.engine.specs.Sample.{referenceNow, opportunityAfter, tickedOf}
 use Rattle.engine.specs.Changes.{offsetTo, preparedAt, preparedAll, soughtPhase, soughtClock, soughtNext}
-use Rattle.engine_laws.specs.Acts.{Double}
 use Rattle.engine_laws.proofs.Joins.{grown-small}
 use Rattle.engine_laws.proofs.Sound.{Made, Settled, Sound}
 

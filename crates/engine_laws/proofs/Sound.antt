@@ -12,7 +12,7 @@ use lib.Ieee.Fits.{fits-widens}
 use Rattle.sequences.specs.Pick.{either, by-case}
 use Rattle.floats_laws.proofs.Rising.{nought}
 use Rattle.births.specs.declared.voices.Voice.{Voice}
-use Rattle.births.specs.Voices.{rate32, maxHzOf, freeVoiceOf, sourceVoiceOf}
+use Rattle.births.specs.Voices.{freeVoiceOf, sourceVoiceOf}
 use Rattle.births.specs.Births.{partialsBy, newbornOf}
 use Rattle.pitch_laws.proofs.Harmonics.{Picks, picks-lawful}
 use Rattle.pitch_laws.proofs.Octaves.{WholeUpto}
@@ -23,7 +23,7 @@ use Rattle.pool.specs.Pool.{freeParticle}
 use Rattle.settings.specs.declared.Config.{Config}
 use Rattle.settings.specs.declared.Shape.{Shape}
 use Rattle.settings.specs.declared.Shape.the-variants.{Sprinkle, Cloud}
-use Rattle.settings.specs.Envelope.{envelopeOf}
+use Rattle.settings.specs.Envelope.{contourOf}
 use Rattle.settings.specs.Settings.{maxHop, lawfulRate}
 use Rattle.settings.specs.Mending.{mendedOf}
 use Rattle.settings_laws.proofs.Lifetimes as lifetimes
@@ -32,7 +32,7 @@ use Rattle.sources.specs.declared.Source.{Source}
 use Rattle.sources.specs.Sources.{isEligible}
 use Rattle.frame_laws.proofs.Newborn.{Voiced, top-of, newborn-fair}
 use Rattle.frame_laws.proofs.Windowed.{Fair}
-use Rattle.floats_laws.proofs.Unit.{Unit}
+use Rattle.floats_laws.proofs.Proportions.{Proportion}
 use Rattle.state.specs.declared.Engine.{Engine}
 use Rattle.state.specs.State.{pastSource}
 use Rattle.state.specs.declared.Prepared.{Prepared}
@@ -43,7 +43,8 @@ use Rattle.sequences.specs.Every.{Every, every-getD, in-case}
 use Rattle.floats_laws.proofs.Fitting.{own-convert}
 use Rattle.engine_laws.specs.Acts.{Singles}
 use Rattle.engine_laws.proofs.Newborns.{Power, shape-power, shape-octave, octave-fits, lifetime-fits}
-use Rattle.engine_laws.proofs.Voices.{Formed, source-voiced, free-voiced}
+use Rattle.engine_laws.proofs.Voices.{FormedSource, source-voiced, free-voiced}
+use Rattle.pitch.specs.Highest.{maxHzOf, rate32}
 
 -- ---- the terms
 -- one of three harmonics, or none
@@ -66,11 +67,11 @@ pub record Fit (now : ℕ) (p : Particle) : Type 0 where
   pub power : Power (p .«decay_power»)
 
 -- of a place: who holds it is fit, and a free one is empty
-abbrev pub Held : ℕ → Particle → Type 0
-Held now p = (p .active ≡ true → Fit now p) × (p .active ≡ false → p ≡ freeParticle)
+abbrev pub FitPlace : ℕ → Particle → Type 0
+FitPlace now p = (p .active ≡ true → Fit now p) × (p .active ≡ false → p ≡ freeParticle)
 
 -- what the law of lifetimes asks of settings
-both-formed : (c : Config) → Singles c → lifetimes.Formed c
+both-formed : (c : Config) → Singles c → lifetimes.FormedConfig c
 both-formed c s = record { rate = s .rate; size = s .size }
 
 -- settings that `configure` has mended, with a lawful hop
@@ -100,15 +101,15 @@ pub record Sound (e : Engine) : Type 0 where
   pub time : e .clock .sample ≤ 2 ^ 40
   pub places : length (e .particles) ≡ 64
   pub slots : length (e .sources) ≡ 256
-  pub formed : Every Formed (e .sources)
-  pub active : Unit (e .activity)
-  pub held : Every (Held (e .clock .sample)) (e .particles)
+  pub formed : Every FormedSource (e .sources)
+  pub active : Proportion (e .activity)
+  pub held : Every (FitPlace (e .clock .sample)) (e .particles)
   pub lanes : length (e .streams) ≡ 3
   pub reserved : e .next .«immediate_index» < 2 ^ 64
   pub counted : Counted (e .tally)
 
 -- ---- time goes on
-pub fit-later : (now later : ℕ) → now ≤ later → (p : Particle) → Held now p → Held later p
+pub fit-later : (now later : ℕ) → now ≤ later → (p : Particle) → FitPlace now p → FitPlace later p
 fit-later now later h p f = (later-fit, f .1)
   where
     later-fit : p .active ≡ true → Fit later p
@@ -158,7 +159,7 @@ pub newborn-fit : (index : ℕ) (voice : Voice) (config : Config) (rate : Float)
 unfolding newbornOf
 newborn-fit index voice config rate sample weights s f l v o =
     let same = own-convert binary32 rate f in
-    let e : envelopeOf config index (rate32 rate) ≡ envelopeOf (mendedOf (s .asked)) index rate = ap (λ (c : Config). envelopeOf c index (rate32 rate)) (s .is) ∙ ap (envelopeOf (mendedOf (s .asked)) index) same in
+    let e : contourOf config index (rate32 rate) ≡ contourOf (mendedOf (s .asked)) index rate = ap (λ (c : Config). contourOf c index (rate32 rate)) (s .is) ∙ ap (contourOf (mendedOf (s .asked)) index) same in
     let w = subst lifetimes.Sound (sym e) (envelope-sound (s .asked) index rate (both-formed (s .asked) (s .singles)) (s .hop) l) in
     let r : T (lawfulRate (rate32 rate)) = subst (λ (x : Float). T (lawfulRate x)) (sym same) l in
     record {
@@ -183,7 +184,7 @@ voice-slot e index slot h = either (λ (v : Voice). v .slot ≤ 256) _ _ _ h (le
 abbrev pub Sounding : List Source → ℕ → Type 0
 Sounding ss slot = slot < 256 → isEligible (getD ss slot pastSource) ≡ true
 
-pub past-formed : Formed pastSource
+pub past-formed : FormedSource pastSource
 unfolding fits
 past-formed = record { hz = tt; strength = tt }
 
@@ -191,7 +192,7 @@ voice-voiced : (e : Engine) (index slot : ℕ) → Sound e → Sounding (e .sour
 unfolding voiceFor
 voice-voiced e index slot s h =
     in-case Voiced (ltb slot 256) _ _
-    (λ q. source-voiced slot (getD (e .sources) slot pastSource) (h (ltb-true slot 256 q)) (every-getD Formed (e .sources) slot pastSource past-formed (s .formed)))
+    (λ q. source-voiced slot (getD (e .sources) slot pastSource) (h (ltb-true slot 256 q)) (every-getD FormedSource (e .sources) slot pastSource past-formed (s .formed)))
     (λ q. free-voiced (e .config .shape) index (e .clock .phase) (e .prepared .«sample_rate») (s .made .single) (s .made .lawful))
 
 pub engine-newborn : (e : Engine) (index slot : ℕ) → Sound e → slot ≤ 256 → Sounding (e .sources) slot → Fit (e .clock .sample) (newbornFor e index slot)

@@ -17,9 +17,9 @@ use Rattle.floats_laws.proofs.Products.{mul-rises-right}
 use Rattle.floats_laws.proofs.Rising.{nought}
 use Rattle.floats_laws.proofs.Rules.{between-finite, finite-number, lt→le}
 use Rattle.floats_laws.proofs.Spans.{lt-le}
-use Rattle.floats_laws.proofs.Unit.{i, i-fits, nought-fits, one-unit}
+use Rattle.floats_laws.proofs.Proportions.{i, i-fits, nought-fits, one-unit}
 use Rattle.draws.specs.Draws.{randomOf}
-use Rattle.draws.proofs.Unit.{random-in}
+use Rattle.draws.proofs.Drawn.{random-in}
 use Rattle.powers.specs.Placed.{edged, placed}
 use Rattle.powers.specs.PowerCells.{starts, slopes, bends, startOf, slopeOf, bendOf}
 use Rattle.powers.specs.Power.{lifted, mantissa, powerBits, power, exp2, pow8}
@@ -33,12 +33,13 @@ use Rattle.settings.specs.declared.Shape.the-variants.{Sprinkle, Cloud}
 use Rattle.settings.specs.Settings.{lawfulRate}
 use Rattle.sources.specs.declared.Source.{Source}
 use Rattle.sources.specs.Sources.{isPitched, isEligible}
-use Rattle.births.specs.Voices.{maxHzOf, freeRootOf, freeHzOf, freeVoiceOf, sourceVoiceOf}
+use Rattle.births.specs.Voices.{freeRootOf, freeHzOf, freeVoiceOf, sourceVoiceOf}
 use Rattle.frame_laws.proofs.Newborn.{Voiced}
 use Rattle.floats_laws.proofs.Fitting.{own-convert}
+use Rattle.pitch.specs.Highest.{maxHzOf}
 
 -- what a Source of the code always has: its floats are f32s
-pub record Formed (s : Source) : Type 0 where
+pub record FormedSource (s : Source) : Type 0 where
   pub hz : T (fits binary32 (s .«frequency_hz»))
   pub strength : T (fits binary32 (s .strength))
 
@@ -55,7 +56,7 @@ pub pitched-sounds : (x : Float) → isPitched x ≡ true → T (lt nought x) ×
 unfolding isPitched ofBits
 pitched-sounds x h = let b = both (finite x) (lt nought x) h in (holds (lt nought x) (b .1), holds (finite x) (b .0))
 
-pub source-voiced : (slot : ℕ) (s : Source) → isEligible s ≡ true → Formed s → Voiced (sourceVoiceOf slot s)
+pub source-voiced : (slot : ℕ) (s : Source) → isEligible s ≡ true → FormedSource s → Voiced (sourceVoiceOf slot s)
 unfolding isEligible sourceVoiceOf ofBits
 source-voiced slot s h f =
     let b = both (isPitched (s .«frequency_hz»)) (isPitched (s .strength)) (both (s .eligible) _ h .1) in

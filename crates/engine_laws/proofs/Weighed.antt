@@ -10,7 +10,7 @@ use lib.Ieee.Bits.{ofBits-fits}
 use Rattle.sequences.specs.Pick.{either}
 use Rattle.sequences.specs.Every.{in-case}
 use Rattle.sequences.specs.Times.{iterate}
-use Rattle.floats.specs.Names.{f32, nil}
+use Rattle.floats.specs.Names.{f32, zero32}
 use Rattle.refusals.specs.declared.Answer.{Answer}
 use Rattle.settings.specs.declared.Config.{Config}
 use Rattle.settings.specs.Settings.{maxHop, checkedOf}
@@ -27,7 +27,7 @@ use Rattle.births.specs.Birth.{bornOf}
 use Rattle.engine.specs.Sample.{tickedOf, steppedOf}
 use Rattle.engine.specs.Advance.{advancedOf}
 use Rattle.engine.specs.Changes.{retiredAll, aligned, reweighed, switched, offset, restarted, configuredTo, answeredBy, configuredOf, notesOf, soughtOf}
-use Rattle.engine.specs.Slots.{placedOf, setSourceOf, retireSourceOf, releaseSourceOf}
+use Rattle.engine.specs.Slots.{suppliedOf, setSourceOf, retireSourceOf, releaseSourceOf}
 use Rattle.engine.specs.declared.triggers.Triggered.{Triggered}
 use Rattle.engine.specs.Triggers.{reservedOf, triggeredBy, triggeredOf}
 use Rattle.frame.specs.declared.Framed.{Framed}
@@ -85,7 +85,7 @@ weighed-steps (suc n) e w = weighed-stepped (iterate steppedOf n e) (weighed-ste
 -- ---- configure
 settled-rolloff : (c : Config) → Settled c → T (fits binary32 (c .«partial_rolloff_db»))
 unfolding mendedOf
-settled-rolloff c h = subst (λ (d : Config). T (fits binary32 (d .«partial_rolloff_db»))) (sym (h .is)) (held-fits (h .asked .«partial_rolloff_db») (f32 0x40c00000) nil (f32 0x41c00000) (h .singles .rolloff) (ofBits-fits binary32 0x40c00000) (ofBits-fits binary32 0) (ofBits-fits binary32 0x41c00000))
+settled-rolloff c h = subst (λ (d : Config). T (fits binary32 (d .«partial_rolloff_db»))) (sym (h .is)) (held-fits (h .asked .«partial_rolloff_db») (f32 0x40c00000) zero32 (f32 0x41c00000) (h .singles .rolloff) (ofBits-fits binary32 0x40c00000) (ofBits-fits binary32 0) (ofBits-fits binary32 0x41c00000))
 
 made-logs : (p : Prepared) → Made p → Logs (p .«partial_logs»)
 unfolding preparedOf
@@ -140,8 +140,8 @@ weighed-triggered e slot index w =
     let P : Triggered → Type 0 = λ t. Weighed (t .engine) in
     either P _ _ _ (either P _ _ _ (let b = weighed-born e _ slot w in either P _ _ _ b b) w) w
 
-weighed-placed : (e : Engine) (slot : ℕ) (s : Source) → Weighed e → Weighed (placedOf e slot s)
-unfolding placedOf
+weighed-placed : (e : Engine) (slot : ℕ) (s : Source) → Weighed e → Weighed (suppliedOf e slot s)
+unfolding suppliedOf
 weighed-placed e slot s w = either Weighed _ _ _ w w
 
 -- THE CLAIM

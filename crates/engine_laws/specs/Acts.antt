@@ -1,12 +1,14 @@
 -- The calls as acts: what a call does, one step after the other, so that every moment of a run has a name, between two births of one sample too.
--- A refused call has no acts. Definitions only.
+-- A refused call has no acts, but for a trigger on a missing slot, which still uses up its index. Definitions only.
 use Prim.Native.Nat.{ℕ, zero, suc, _+_, _^_}
 use mathlib.Core.Bool.{Bool}
 use mathlib.Core.List.{List, [], _∷_, _++_, map}
 use lib.Bits.{bitXor}
-use lib.Dec.{T, eqb, leb, ltb}
+use lib.Dec.{eqb, leb, ltb}
 use lib.ListN.{getD, set}
-use lib.Ieee.{Float, binary32, binary64, fits, lt, le, eq}
+use lib.Ieee.{Float, lt, le, eq}
+use Rattle.floats.specs.Names.{Single, Double}
+use Rattle.floats.specs.Word.{grown}
 use Rattle.sequences.specs.Pick.{pick}
 use Rattle.sequences.specs.Times.{iterate}
 use Rattle.draws.specs.Draws.{keyOf}
@@ -19,13 +21,13 @@ use Rattle.settings.specs.declared.Shape.the-variants.{Sprinkle, Cloud}
 use Rattle.settings.specs.Settings.{checkedOf}
 use Rattle.settings.specs.Mending.{mendedOf}
 use Rattle.sources.specs.declared.Source.{Source}
-use Rattle.sources.specs.Sources.{noSource, same, sameFlag, isPitched, releasedOf}
+use Rattle.sources.specs.Sources.{noSource, same, sameFlag, isPitched, releasedOf, maxSources, noSlot}
 use Rattle.timing.specs.declared.SprinkleStream.{SprinkleStream}
 use Rattle.timing.specs.Streams.{alignedAll, movedOf, referenceOf}
 use Rattle.state.specs.declared.Clock.{Clock}
 use Rattle.state.specs.declared.Engine.{Engine}
 use Rattle.state.specs.declared.Next.{Next}
-use Rattle.state.specs.State.{grown, withClock, withConfig, withNext, withParticles, withStreams, withWeights, pastSource, pastStream}
+use Rattle.state.specs.State.{withClock, withConfig, withNext, withParticles, withStreams, withWeights, pastSource, pastStream}
 use Rattle.state.specs.Make.{weightsOf}
 use Rattle.births.specs.Birth.{bornOf}
 use Rattle.engine.specs.Sample.{triedOf, laneOf, opportunityAfter, withOpportunity, referenceNow, deliveredOf, tickedOf, steppedOf}
@@ -38,7 +40,7 @@ use Rattle.frame.specs.Call.{heldOf, freedOf, renewedOf, framedOf}
 
 -- ---- acts
 pub data Act : Type 0 where
-  -- an index, and a trigger's own slot (256 for none)
+  -- an index, and a trigger's own slot (`noSlot` for none)
   birth : ℕ → ℕ → Act
   -- every particle, or those that follow a slot
   retire : Act
@@ -82,7 +84,7 @@ unfoldable pub triedActs : Engine → ℕ → Float → List Act
 triedActs e lane reference =
     let s = getD (e .streams) lane pastStream in
     pick (lt reference (s .next)) []
-    (streams (set (e .streams) lane (movedOf (s .index) lane reference (e .config .sync))) ∷ pick (s .emit) (only (e .config .enabled) (birth (keyOf lane (s .index)) 256)) [])
+    (streams (set (e .streams) lane (movedOf (s .index) lane reference (e .config .sync))) ∷ pick (s .emit) (only (e .config .enabled) (birth (keyOf lane (s .index)) noSlot)) [])
 
 unfoldable pub laneActs : Engine → ℕ → Float → List Act
 laneActs e lane reference = triedActs e lane reference ++ triedActs (triedOf e lane reference) lane reference
@@ -94,7 +96,7 @@ shapeActs Sprinkle e reference =
 shapeActs Cloud e reference =
     let index = e .next .opportunity in
     pick (le (referenceOf index) reference)
-    (next (withOpportunity (e .next) (opportunityAfter index reference)) ∷ only (e .config .enabled) (birth index 256)) []
+    (next (withOpportunity (e .next) (opportunityAfter index reference)) ∷ only (e .config .enabled) (birth index noSlot)) []
 
 -- births first, then the clock
 unfoldable pub deliverActs : Engine → List Act
@@ -136,7 +138,7 @@ checkedActs (Refused r) e c = []
 
 -- ---- triggers
 unfoldable pub triggerActs : Engine → ℕ → ℕ → List Act
-triggerActs e slot index = pick (ltb slot 256) (only (isPermitted e slot) (birth (bitXor index (2 ^ 63)) slot)) []
+triggerActs e slot index = pick (ltb slot maxSources) (only (isPermitted e slot) (birth (bitXor index (2 ^ 63)) slot)) []
 
 abbrev pub reserveAct : Engine → Act
 reserveAct e = next (withIndex (e .next) (grown (e .next .«immediate_index»)))
@@ -155,12 +157,6 @@ pub data Call : Type 0 where
   advance : ℕ → Call
   takeFrame : Float → Float → Call
 
-abbrev pub Single : Float → Type 0
-Single x = T (fits binary32 x)
-
-abbrev pub Double : Float → Type 0
-Double x = T (fits binary64 x)
-
 -- the settings' floats are f32s
 pub record Singles (c : Config) : Type 0 where
   pub rate : Single (c .«rate_hz»)
@@ -170,7 +166,7 @@ pub record Singles (c : Config) : Type 0 where
   pub attack : Single (c .«attack_ms»)
   pub release : Single (c .«release_ms»)
 
--- what the code's types say of a call: its floats are f32s, and a seek's an f64
+-- what the code's types say of the floats that a call brings into the state: they are f32s, and a seek's an f64. The width of a frame's bins stays out of it.
 abbrev pub Typed : Call → Type 0
 Typed (configure c) = Singles c
 Typed (setSource slot s) = Single (s .«frequency_hz») × Single (s .strength)
@@ -188,10 +184,10 @@ unfoldable pub actsOf : Engine → Call → List Act
 actsOf e (configure c) = checkedActs (checkedOf c) e c
 actsOf e (noteInput present) = next (withNotes (e .next) present) ∷ []
 actsOf e (setSource slot s) =
-    pick (ltb slot 256)
+    pick (ltb slot maxSources)
     (pick (same (getD (e .sources) slot pastSource) s) [] (source slot s ∷ only (isPitched (s .«frequency_hz»)) (retune slot (s .«frequency_hz»)))) []
-actsOf e (retireSource slot) = pick (ltb slot 256) (source slot noSource ∷ retireBound slot ∷ []) []
-actsOf e (releaseSource slot) = only (ltb slot 256) (source slot (releasedOf (getD (e .sources) slot pastSource)))
+actsOf e (retireSource slot) = pick (ltb slot maxSources) (source slot noSource ∷ retireBound slot ∷ []) []
+actsOf e (releaseSource slot) = only (ltb slot maxSources) (source slot (releasedOf (getD (e .sources) slot pastSource)))
 actsOf e (trigger slot) = reserveAct e ∷ triggerActs (reservedOf e .engine) slot (e .next .«immediate_index»)
 actsOf e reserve = reserveAct e ∷ []
 actsOf e (reserved slot index) = triggerActs e slot index

@@ -5,11 +5,12 @@ use mathlib.Core.Logic.{_⊎_}
 use mathlib.Core.Bool.{Bool, true, false}
 use lib.Dec.{T}
 use lib.ListN.{length, getD}
-use lib.Ieee.{Float, lt, le}
+use lib.Ieee.{lt, le}
 use lib.Ieee.Exact.{HasValue}
 use lib.Ieee.Scale.{finite}
+use Rattle.sources.specs.Sources.{maxSources, noSlot}
 use Rattle.sequences.specs.Every.{Every}
-use Rattle.floats.specs.Names.{f64, nil, one}
+use Rattle.floats.specs.Names.{f64, zero32, one, Single, Double}
 use Rattle.pool.specs.declared.Particle.{Particle}
 use Rattle.pool.specs.declared.Retired.the-variants.{At}
 use Rattle.pool.specs.Pool.{freeParticle}
@@ -23,11 +24,11 @@ use Rattle.timing.specs.declared.SprinkleStream.{SprinkleStream}
 use Rattle.state.specs.declared.Clock.{Clock}
 use Rattle.state.specs.declared.Engine.{Engine}
 use Rattle.state.specs.Make.{preparedOf}
-use Rattle.engine_laws.specs.Acts.{Single, Double, Singles}
+use Rattle.engine_laws.specs.Acts.{Singles}
 
 -- settings that `configure` would leave as they are, or would but for a phase of exactly 1.0, which it makes 0.0
 pub record LawfulSettings (c : Config) : Type 0 where
-  pub mended : (mendedOf c ≡ c) ⊎ ((c .phase ≡ one) × (mendedOf c ≡ withPhase nil c))
+  pub mended : (mendedOf c ≡ c) ⊎ ((c .phase ≡ one) × (mendedOf c ≡ withPhase zero32 c))
   pub hop : c .«hop_samples» ≤ maxHop
   pub partials : (1 ≤ c .partials) × (c .partials ≤ 24)
   pub floats : Singles c
@@ -47,16 +48,16 @@ pub record LawfulStream (s : SprinkleStream) : Type 0 where
 
 -- of a particle that is active, at the sample `now`
 pub record LawfulParticle (now : ℕ) (p : Particle) : Type 0 where
-  pub slot : p .source ≤ 256
+  pub slot : p .source ≤ noSlot
   pub partials : (length (p .partials) ≡ 3) × ((k : ℕ) → getD (p .partials) k 0 ≤ 24)
   pub birth : p .birth ≤ now
   pub retirement : (t : ℕ) → p .retirement ≡ At t → (p .birth ≤ t) × (t ≤ now)
-  pub frequency : T (lt nil (p .«frequency_hz»)) × T (finite (p .«frequency_hz»)) × Single (p .«frequency_hz»)
-  pub width : T (lt nil (p .width)) × T (finite (p .width)) × Single (p .width)
+  pub frequency : T (lt zero32 (p .«frequency_hz»)) × T (finite (p .«frequency_hz»)) × Single (p .«frequency_hz»)
+  pub width : T (lt zero32 (p .width)) × T (finite (p .width)) × Single (p .width)
   pub octave : (s : Bool) × (n : ℕ) × (n ≤ 256) × HasValue (p .octave) s n 1
   pub octave-fits : Single (p .octave)
-  pub strength : T (le nil (p .strength)) × T (le (p .strength) one) × Single (p .strength)
-  pub attack : T (lt nil (p .attack)) × T (lt (p .attack) one) × Single (p .attack)
+  pub strength : T (le zero32 (p .strength)) × T (le (p .strength) one) × Single (p .strength)
+  pub attack : T (lt zero32 (p .attack)) × T (lt (p .attack) one) × Single (p .attack)
   pub power : (p .«decay_power» ≡ 1) ⊎ (p .«decay_power» ≡ 3)
   pub lifetime : T (lt (f64 0) (p .lifetime)) × T (le (p .lifetime) (f64 0x4024000000000000)) × Double (p .lifetime)
 
@@ -75,13 +76,13 @@ pub record Lawful (e : Engine) : Type 0 where
   pub streams : Every LawfulStream (e .streams)
   pub opportunity : e .next .opportunity < 2 ^ 59
   pub reserved : e .next .«immediate_index» < 2 ^ 64
-  pub last : e .next .«last_source» ≤ 256
+  pub last : e .next .«last_source» ≤ noSlot
   pub attempts : e .tally .attempts ≤ 64
   pub births : e .tally .births < 2 ^ 64
   pub dropped : e .tally .dropped < 2 ^ 64
   pub hash : e .tally .«decision_hash» < 2 ^ 64
-  pub activity : T (le nil (e .activity)) × T (le (e .activity) one) × Single (e .activity)
-  pub slots : length (e .sources) ≡ 256
+  pub activity : T (le zero32 (e .activity)) × T (le (e .activity) one) × Single (e .activity)
+  pub slots : length (e .sources) ≡ maxSources
   pub sources : Every LawfulSource (e .sources)
   pub places : length (e .particles) ≡ 64
   pub particles : Every (LawfulPlace (e .clock .sample)) (e .particles)

@@ -13,7 +13,7 @@ use Rattle.sequences.specs.Table.{length-table}
 use Rattle.text.specs.Put.{bufferOf}
 use Rattle.windows.specs.declared.Window.{Window}
 use Rattle.windows.specs.declared.Frame.{Frame}
-use Rattle.windows.specs.Opening.{none}
+use Rattle.windows.specs.Opening.{emptyWindow}
 use Rattle.entry.specs.Entry.{wordOf, byteOf, byteAt, bytesOf, frameBytes}
 
 pub frame-length : (f : Frame) → length (frameBytes f) ≡ 2308
@@ -28,7 +28,7 @@ its-window ws activity j d long =
     (λ y.
     let k : j / 4 < 576 = ltb-true _ _ y in
     let same : j / 12 % 192 ≡ j / 12 = omega arith in
-    rw same (ap (λ (w : Window). byteOf w activity j) (getD-any ws (j / 12) d none (omega arith))))
+    rw same (ap (λ (w : Window). byteOf w activity j) (getD-any ws (j / 12) d emptyWindow (omega arith))))
     (λ n. rw n)
 
 -- a frame put where it just fits

@@ -11,7 +11,7 @@ use Rattle.refusals.specs.declared.Answer.the-variants.{Taken, Refused}
 use Rattle.refusals.specs.declared.Refusal.the-variants.{Lengths}
 use Rattle.windows.specs.declared.Frame.{Frame}
 use Rattle.windows.specs.declared.Window.{Window}
-use Rattle.windows.specs.Opening.{none}
+use Rattle.windows.specs.Opening.{emptyWindow}
 use Rattle.listing.specs.Ended.{ranOf}
 
 -- a window is centre, radius, amplitude
@@ -32,7 +32,7 @@ byteOf w activity j = digitOf (wordOf w activity (j / 4)) (j % 4)
 
 -- so that a window has twelve
 unfoldable pub byteAt : List Window → Float → ℕ → ℕ
-byteAt ws activity j = byteOf (getD ws (j / 12) none) activity j
+byteAt ws activity j = byteOf (getD ws (j / 12) emptyWindow) activity j
 
 unfoldable pub bytesOf : List Window → Float → List ℕ
 bytesOf ws activity = table 2308 (byteAt ws activity)

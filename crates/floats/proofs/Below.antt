@@ -3,7 +3,7 @@ use Prim.Native.Nat.{ℕ, _+_, _*_, _<_}
 use native.Mathlib.Omega.{arith}
 use mathlib.Core.Path.{_≡_, refl, sym, ap, _∙_}
 use mathlib.Core.Bool.{Bool, true, false, _||_, _&&_}
-use lib.Dec.{ltb, eqb}
+use lib.Dec.{eqb}
 use lib.Ieee.{Float, nan, inf, fin, below, level, up, down, lt, le, eq}
 use borrow.Author.Tests.{ltb-true, le-ltb, ne-eqb, eqb-true}
 use Rattle.floats.proofs.Sat.{no}

@@ -1,7 +1,7 @@
 -- Two floats of one format with the same bits are one float.
 use Prim.Native.Nat.{ℕ}
 use mathlib.Core.Path.{_≡_, sym, ap, _∙_}
-use mathlib.Core.Bool.{Bool, true}
+use mathlib.Core.Bool.{true}
 use lib.Dec.{T, eqb, eqb→eq}
 use denote.Floats.{passes}
 use lib.Ieee.{Float, Format, fits, toBits, ofBits}

@@ -1,7 +1,8 @@
 -- Short names of the operations at one format and of a few numbers, for definitions that follow a line of Rust. Definitions only.
 use Prim.Native.Nat.{ℕ}
 use lib.IntN.{pos}
-use lib.Ieee.{Float, binary32, binary64, ofBits, ofInt, add, sub, mul, div}
+use lib.Dec.{T}
+use lib.Ieee.{Float, binary32, binary64, fits, ofBits, ofInt, neg, add, sub, mul, div}
 
 abbrev pub f32 : ℕ → Float
 f32 b = ofBits binary32 b
@@ -33,10 +34,17 @@ mul64 = mul binary64
 abbrev pub div64 : Float → Float → Float
 div64 = div binary64
 
--- 0.0, 0.5, 1.0 and 2.0 as f32
-abbrev pub nil : Float
-nil = f32 0x00000000
+-- 0.0 and -0.0 as f32, 0.0 as f64
+abbrev pub zero32 : Float
+zero32 = f32 0x00000000
 
+abbrev pub minusZero32 : Float
+minusZero32 = neg zero32
+
+abbrev pub zero64 : Float
+zero64 = f64 0x0000000000000000
+
+-- 0.5, 1.0 and 2.0 as f32
 abbrev pub half : Float
 half = f32 0x3f000000
 
@@ -49,3 +57,10 @@ two = f32 0x40000000
 -- n as f32
 abbrev pub asFloat : ℕ → Float
 asFloat n = ofInt binary32 (pos n)
+
+-- x is an f32, x is an f64
+abbrev pub Single : Float → Type 0
+Single x = T (fits binary32 x)
+
+abbrev pub Double : Float → Type 0
+Double x = T (fits binary64 x)

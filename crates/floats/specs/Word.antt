@@ -1,6 +1,10 @@
 -- Words of 64 bits as numbers modulo 2 ^ 64. Definitions only.
 use Prim.Native.Nat.{ℕ, _+_, _-_, _*_, _/_, _%_, _^_}
 
+-- the word after n
+abbrev pub grown : ℕ → ℕ
+grown n = (n + 1) % 2 ^ 64
+
 -- a - b, modulo 2 ^ 64
 abbrev pub difference : ℕ → ℕ → ℕ
 difference a b = (a + (2 ^ 64 - b)) % 2 ^ 64

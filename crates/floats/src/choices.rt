@@ -1,7 +1,7 @@
 // Choosing among floats: the larger, the smaller, one held to a range, a size, whether one is
-// finite. 01 settles what Rust leaves open: of two zeros `max` and `min` give the first.
+// finite; and two tests at once. 01 settles what Rust leaves open: of two zeros `max` and `min` give the first.
 ghost use mathlib.Core.Path.{_≡_};
-ghost use mathlib.Core.Bool.{cond};
+ghost use mathlib.Core.Bool.{cond, _&&_};
 ghost use lib.Ieee.Scale.{finite};
 ghost use Rattle.floats.specs.Choose.{max, min, clamp, abs};
 
@@ -81,4 +81,11 @@ pub fn is_finite64(x: f64) -> bool
 {
     let gap = x - x;
     gap == gap
+}
+
+// As a call, so that a caller has one equation of the answer, and no branch.
+pub fn both(a: bool, b: bool) -> bool
+    ensures { λ r. ⌜ r ≡ (a && b) ⌝ }
+{
+    a && b
 }

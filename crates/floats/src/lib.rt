@@ -18,6 +18,7 @@ pub use cast::f64_to_u64;
 pub use cast::f64_to_usize;
 pub use cast::u64_to_f32;
 pub use choices::abs32;
+pub use choices::both;
 pub use choices::clamp32;
 pub use choices::is_finite32;
 pub use choices::is_finite64;

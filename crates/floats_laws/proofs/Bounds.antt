@@ -10,7 +10,7 @@ use lib.Pow.{pow-pos}
 use lib.Ieee.{Float, nan, inf, fin, Format, prec, up, down, round, add, sub, neg, sum, mul, div, lt, ofInt, isNan, unlike}
 use lib.Ieee.Fits.{down-pos}
 use denote.Floats.{passes}
-use Rattle.floats.specs.Choose.{max, min, abs}
+use Rattle.floats.specs.Choose.{max, abs}
 use Rattle.floats.specs.Convert.{convert}
 use Rattle.sequences.specs.Pick.{by-case}
 use Rattle.floats_laws.proofs.Mag.{Mag, Upto, Least, least-pos, within, within-upto}
@@ -41,10 +41,6 @@ module _ (x y : Float) (k : ℕ) where
   pub max-upto : Upto x k → Upto y k → Upto (max x y) k
   unfolding max
   max-upto p q = chosen (λ z. Upto z k) (isNan x) y (cond (lt x y) y x) q (chosen (λ z. Upto z k) (lt x y) y x q p)
-
-  pub min-mag : Mag x k → Mag y k → Mag (min x y) k
-  unfolding min
-  min-mag p q = chosen (λ z. Mag z k) (isNan x) y (cond (lt y x) y x) q (chosen (λ z. Mag z k) (lt y x) y x q p)
 
 -- ---- sums
 more-than : (a b m n c : ℕ) → a ≤ m * c → b ≤ n * c → a + b ≤ (m + n) * c

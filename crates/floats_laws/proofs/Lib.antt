@@ -31,7 +31,7 @@ pub mod Wholes
 pub mod Gap
 pub mod Units
 pub mod Grid
-pub mod Unit
+pub mod Proportions
 pub mod Fitting
 pub mod Fractions
 pub mod Between

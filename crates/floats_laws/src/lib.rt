@@ -1,1 +1,2 @@
-// Laws of floats that no function of `floats` needs: rounding, order, bounds, patterns, over both formats. Other crates' proofs cite them. No code.
+// Laws of floats that no function of `floats` needs: rounding, order, bounds, patterns, over both formats
+// where they hold in both. Other crates' proofs cite them. No code.

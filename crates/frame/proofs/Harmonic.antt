@@ -9,20 +9,20 @@ use lib.Ieee.{Float, nan}
 use lib.ListN.{getD}
 use Rattle.sequences.specs.Pick.{took, skipped}
 use Rattle.floats.specs.Names.{add32}
-use Rattle.windows.specs.Opening.{none}
+use Rattle.windows.specs.Opening.{emptyWindow}
 use Rattle.frame.specs.declared.places.Shown.{Shown}
-use Rattle.frame.specs.Windows.{centerOf, placedOf, windowOf, pastShown, windowAt}
+use Rattle.frame.specs.Windows.{centerOf, windowBy, windowOf, pastShown, windowAt}
 
 module _ (logs : List Float) (binHz maxHz : Float) (s : Shown) (partial : ℕ) where
   pub row-shows : (row : ℕ) → row < 24 → partial ≡ row + 1
-      → placedOf binHz maxHz s (add32 (s .«root_log») (getD logs row nan)) ≡ windowOf logs binHz maxHz s partial
+      → windowBy binHz maxHz s (add32 (s .«root_log») (getD logs row nan)) ≡ windowOf logs binHz maxHz s partial
   unfolding windowOf centerOf
   row-shows row h e =
       skipped _ _ _ _ (ne-eqb partial 0 (λ q. omega (arith, e, q)))
       (skipped _ _ _ _ (le-ltb 24 partial (omega (arith, e)))
-      (ap (λ (r : ℕ). placedOf binHz maxHz s (add32 (s .«root_log») (getD logs r nan))) (omega (arith, e))))
+      (ap (λ (r : ℕ). windowBy binHz maxHz s (add32 (s .«root_log») (getD logs r nan))) (omega (arith, e))))
 
-  pub other-shows-none : (partial ≡ 0) ⊎ (24 < partial) → none ≡ windowOf logs binHz maxHz s partial
+  pub other-shows-none : (partial ≡ 0) ⊎ (24 < partial) → emptyWindow ≡ windowOf logs binHz maxHz s partial
   unfolding windowOf
   other-shows-none =
       ⊎-elim (λ p. took _ _ _ _ (eq-eqb partial 0 p) refl)

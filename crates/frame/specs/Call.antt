@@ -5,7 +5,7 @@ use lib.Ieee.{Float}
 use Rattle.sequences.specs.Pick.{pick}
 use Rattle.sequences.specs.Walk.{count}
 use Rattle.floats.specs.Word.{difference}
-use Rattle.births.specs.Voices.{maxHzOf}
+use Rattle.pitch.specs.Highest.{maxHzOf}
 use Rattle.state.specs.declared.Engine.{Engine}
 use Rattle.state.specs.declared.Tally.{Tally}
 use Rattle.state.specs.State.{withParticles, withTally}

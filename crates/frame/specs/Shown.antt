@@ -4,7 +4,7 @@ use mathlib.Core.List.{[], _∷_}
 use lib.Dec.{eqb}
 use lib.Ieee.{Float, binary32, lt}
 use Rattle.sequences.specs.Pick.{pick}
-use Rattle.floats.specs.Names.{add32, sub32, mul32, div32, div64, nil, one}
+use Rattle.floats.specs.Names.{add32, sub32, mul32, div32, div64, zero32, one}
 use Rattle.floats.specs.Convert.{convert}
 use Rattle.elementary.specs.Log2.{log2Of}
 use Rattle.pool.specs.declared.Particle.{Particle}
@@ -38,7 +38,7 @@ rootLogOf p = add32 (log2Of (p .«frequency_hz»)) (p .octave)
 
 -- a free place has no partial to show
 unfoldable pub nothing : Shown
-nothing = record { «root_log» = nil; amplitude = nil; width = nil; partials = 0 ∷ 0 ∷ 0 ∷ [] }
+nothing = record { «root_log» = zero32; amplitude = zero32; width = zero32; partials = 0 ∷ 0 ∷ 0 ∷ [] }
 
 unfoldable pub shownOf : ℕ → Float → Particle → Shown
 shownOf sample rate p =

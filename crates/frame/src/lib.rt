@@ -3,6 +3,7 @@ ghost use mathlib.Core.Path.{_≡_};
 ghost use Rattle.state.specs.State.{withParticles};
 ghost use Rattle.frame.specs.Frame.{activityOf, accepted};
 ghost use Rattle.frame.specs.Call.{renewedOf, takenOf, refusedOf, framedOf};
+use pool::MAX_PARTICLES;
 use pool::Particle;
 use refusals::Answer;
 use refusals::Refusal;
@@ -47,7 +48,7 @@ fn accepts(elapsed_seconds: f32) -> bool
 
 // The engine after a frame: the places that are still held, the number of those freed taken off, and the
 // attempts renewed.
-fn renewed(engine: Engine, held: [Particle; 64], freed: usize, activity: f32) -> Engine
+fn renewed(engine: Engine, held: [Particle; MAX_PARTICLES], freed: usize, activity: f32) -> Engine
     ensures { λ r. ⌜ r ≡ renewedOf engine held freed activity ⌝ }
 {
     let still = std::num::wrapping_sub_usize(engine.tally.held, freed);
@@ -62,7 +63,12 @@ fn renewed(engine: Engine, held: [Particle; 64], freed: usize, activity: f32) ->
 // One pass over the places frees and counts those that are due, and works out what the others show.
 // A place is stored only where it is freed, so that the others aren't copied; and the pass stands here,
 // where no call has to hand both arrays on.
-fn taken(engine: Engine, particles: [Particle; 64], bin_hz: f32, elapsed_seconds: f32) -> Framed
+fn taken(
+    engine: Engine,
+    particles: [Particle; MAX_PARTICLES],
+    bin_hz: f32,
+    elapsed_seconds: f32,
+) -> Framed
     ensures { λ r. ⌜ r ≡ takenOf (withParticles engine particles) «bin_hz» «elapsed_seconds» ⌝ }
 {
     let config = engine.config;
@@ -73,9 +79,9 @@ fn taken(engine: Engine, particles: [Particle; 64], bin_hz: f32, elapsed_seconds
     let free = pool::free_particle();
     let nothing = places::nothing_shown();
     let mut held = particles;
-    let mut shown = [nothing; 64];
+    let mut shown = [nothing; MAX_PARTICLES];
     let mut freed: usize = 0;
-    for i in 0..64 {
+    for i in 0..MAX_PARTICLES {
         let p = held[i];
         if places::freed(p, sample, rate) {
             held[i] = free;
@@ -85,7 +91,7 @@ fn taken(engine: Engine, particles: [Particle; 64], bin_hz: f32, elapsed_seconds
             shown[i] = places::show(p, sample, rate);
         }
     }
-    let windows = partials::windows(shown, logs, bin_hz, births::max_hz(rate));
+    let windows = partials::windows(shown, logs, bin_hz, pitch::max_hz(rate));
     let activity = activity(engine.activity, config.enabled, elapsed_seconds);
     let frame = Frame { windows, activity };
     let engine = renewed(engine, held, freed, activity);

@@ -2,9 +2,9 @@
 ghost use mathlib.Core.Path.{_≡_};
 ghost use mathlib.Core.Logic.{_⊎_};
 ghost use Prim.Native.Nat.{_+_, _≤_, _<_};
-ghost use Rattle.frame.specs.Windows.{radiusOf, placedOf, windowsOf};
-ghost use Rattle.windows.specs.Opening.{none};
+ghost use Rattle.frame.specs.Windows.{radiusOf, windowBy, windowsOf};
 use crate::places::Shown;
+use pool::MAX_PARTICLES;
 use windows::Window;
 
 // Never narrower than a bin.
@@ -13,16 +13,6 @@ fn radius(width: f32, bin_hz: f32, hz: f32) -> f32
 {
     let bin = floats::max32(bin_hz, 0.0) / floats::max32(hz, 1.0);
     floats::max32(width, elementary::log2(1.0 + bin))
-}
-
-fn no_window() -> Window
-    ensures { λ r. ⌜ r ≡ none ⌝ }
-{
-    Window {
-        center_log2_hz: 0.0,
-        radius_octaves: 0.0,
-        amplitude: 0.0,
-    }
 }
 
 // The row of a harmonic in the table of logarithms. For what is none it lies past the table's end: 0,
@@ -35,11 +25,11 @@ fn row(partial: u8) -> usize
 
 // The window at the center, or none where that is too high to show.
 fn placed(s: Shown, center: f32, bin_hz: f32, max_hz: f32) -> Window
-    ensures { λ r. ⌜ r ≡ placedOf «bin_hz» «max_hz» s center ⌝ }
+    ensures { λ r. ⌜ r ≡ windowBy «bin_hz» «max_hz» s center ⌝ }
 {
     let hz = elementary::exp2(center);
     if hz >= max_hz {
-        return no_window();
+        return windows::empty_window();
     }
     let radius = radius(s.width, bin_hz, hz);
     Window {
@@ -51,19 +41,24 @@ fn placed(s: Shown, center: f32, bin_hz: f32, max_hz: f32) -> Window
 
 // The window of partial w of place p stands at p + 64 w. The table of logarithms is read here, and not
 // in a function that would be handed it whole; where nothing shows, the window is none already.
-pub fn windows(shown: [Shown; 64], logs: [f32; 24], bin_hz: f32, max_hz: f32) -> [Window; 192]
+pub fn windows(
+    shown: [Shown; MAX_PARTICLES],
+    logs: [f32; 24],
+    bin_hz: f32,
+    max_hz: f32,
+) -> [Window; 192]
     ensures { λ r. ⌜ r ≡ windowsOf logs «bin_hz» «max_hz» shown ⌝ }
 {
-    let none = no_window();
+    let none = windows::empty_window();
     let mut out = [none; 192];
-    for p in 0..64 {
+    for p in 0..MAX_PARTICLES {
         let s = shown[p];
         let partials = s.partials;
         for w in 0..3 {
             let row = row(partials[w]);
             if row < 24 {
                 let center = s.root_log + logs[row];
-                out[p + 64 * w] = placed(s, center, bin_hz, max_hz);
+                out[p + MAX_PARTICLES * w] = placed(s, center, bin_hz, max_hz);
             }
         }
     }

@@ -15,8 +15,8 @@ use Rattle.powers.specs.Power.{exp}
 use Rattle.powers.proofs.PowerLike.{in-unit}
 use Rattle.elementary_laws.proofs.PowerRises.{exp-like}
 use Rattle.elementary_laws.proofs.PowerValues.{power-fits}
-use Rattle.frame.specs.Frame.{stepOf, movedOf, activityOf, accepted}
-use Rattle.floats_laws.proofs.Unit.{Unit, nought-fits, nought-unit, rest-unit, risen-unit, fallen-unit}
+use Rattle.frame.specs.Frame.{stepOf, activityMoved, activityOf, accepted}
+use Rattle.floats_laws.proofs.Proportions.{Proportion, nought-fits, nought-unit, rest-unit, risen-unit, fallen-unit}
 
 -- TRANSITION_SECONDS
 abbrev transition : Float
@@ -49,17 +49,17 @@ module _ (seconds : Float) (p : T (fits binary32 seconds)) (a : T (accepted seco
       (quotient-number binary32 (neg seconds) transition (finite-number binary32 (neg seconds) (neg-finite binary32 seconds f)) tt transition-above) (quotient-number binary32 minus-nought transition tt tt transition-above))
       ending
 
-  step-unit : Unit (stepOf seconds)
+  step-unit : Proportion (stepOf seconds)
   unfolding stepOf exp ofBits
   step-unit =
       let u = in-unit exp-like exponent exponent-most in
       rest-unit (record { held = power-fits _ exponent; least = u .0; most = u .1 })
 
-pub activity-unit : (before : Float) (enabled : Bool) (seconds : Float) → T (fits binary32 seconds) → T (accepted seconds) → Unit before → Unit (activityOf before enabled seconds)
-unfolding activityOf movedOf pick ofBits
+pub activity-unit : (before : Float) (enabled : Bool) (seconds : Float) → T (fits binary32 seconds) → T (accepted seconds) → Proportion before → Proportion (activityOf before enabled seconds)
+unfolding activityOf activityMoved pick ofBits
 activity-unit before true seconds p a u = risen-unit u (step-unit seconds p a)
-activity-unit before false seconds p a u = chosen (lt (movedOf before false seconds) (f32 0x358637bd)) (fallen-unit u (step-unit seconds p a))
+activity-unit before false seconds p a u = chosen (lt (activityMoved before false seconds) (f32 0x358637bd)) (fallen-unit u (step-unit seconds p a))
   where
-    chosen : {x : Float} (b : Bool) → Unit x → Unit (cond b nought x)
+    chosen : {x : Float} (b : Bool) → Proportion x → Proportion (cond b nought x)
     chosen true v = nought-unit
     chosen false v = v

@@ -27,9 +27,9 @@ use Rattle.floats_laws.proofs.Products.{product-from-zero, mul-rises-right}
 use Rattle.floats_laws.proofs.Rising.{nought, add-rises-right, mul-rises}
 use Rattle.floats_laws.proofs.Rules.{finite-number, add-number, lt→le, le-trans as float-trans}
 use Rattle.floats_laws.proofs.Spans.{lt-le}
-use Rattle.floats_laws.proofs.Unit.{i, Unit, i-fits, nought-fits, one-unit, unit-finite, unit-mag, product-unit}
+use Rattle.floats_laws.proofs.Proportions.{i, Proportion, i-fits, nought-fits, one-unit, unit-finite, unit-mag, product-unit}
 use Rattle.draws.specs.Draws.{randomOf}
-use Rattle.draws.proofs.Unit.{random-in}
+use Rattle.draws.proofs.Drawn.{random-in}
 use Rattle.elementary.specs.Log2.{log2Of}
 use Rattle.elementary_laws.proofs.LogRises.{log2-within}
 use Rattle.pitch.specs.Octave.{registerOf}
@@ -42,18 +42,18 @@ use Rattle.settings.specs.declared.Direction.{Direction}
 use Rattle.settings.specs.declared.Direction.the-variants.{Forward, Reverse, Alternate}
 use Rattle.settings.specs.declared.Shape.{Shape}
 use Rattle.settings.specs.declared.Shape.the-variants.{Sprinkle, Cloud}
-use Rattle.settings.specs.Envelope.{sprinkleOf, cloudOf, cloudAttackOf, byShape, envelopeOf}
+use Rattle.settings.specs.Envelope.{sprinkleOf, cloudOf, cloudAttackOf, byShape, contourOf}
 use Rattle.settings.specs.Settings.{maxHop, lawfulRate}
 use Rattle.settings.specs.Mending.{finiteOr, heldTo, mendedOf}
 use Rattle.settings_laws.proofs.Again.{finite-or, or-fits}
-use Rattle.settings_laws.proofs.Lifetimes.{Formed, envelope-sound}
+use Rattle.settings_laws.proofs.Lifetimes.{FormedConfig, envelope-sound}
 use Rattle.births.specs.declared.voices.Voice.{Voice}
-use Rattle.births.specs.Voices.{rate32, maxHzOf}
 use Rattle.births.specs.Births.{registerBy, widthOf, openingOf, strengthOf, newbornOf}
 use Rattle.state.specs.Make.{partialLogs}
 use Rattle.frame_laws.proofs.Strengths.{Rated}
 use Rattle.frame_laws.proofs.Shapes.{Logs, log-mag}
 use Rattle.frame_laws.proofs.Windowed.{Fair}
+use Rattle.pitch.specs.Highest.{maxHzOf, rate32}
 
 -- ---- the rate and the logarithms
 pub lawful-rated : (rate : Float) → T (fits binary32 rate) → T (lawfulRate rate) → Rated rate
@@ -89,20 +89,20 @@ engine-logs j h = subst (λ (x : Float). Mag x 149) (sym (table-at 24 (λ n. log
 -- ---- the particle
 -- what a birth is given
 pub record Voiced (v : Voice) : Type 0 where
-  pub strength : Unit (v .strength)
+  pub strength : Proportion (v .strength)
   pub hz-fits : T (fits binary32 (v .«frequency_hz»))
   pub hz-above : T (lt nought (v .«frequency_hz»))
   pub hz-finite : T (finite (v .«frequency_hz»))
 
 -- ---- a draw lies from 0 to 1
-draw-unit : (index stream : ℕ) → Unit (randomOf index stream)
+draw-unit : (index stream : ℕ) → Proportion (randomOf index stream)
 unfolding randomOf
 draw-unit index stream =
     let h = random-in index stream in
     record { held = div-fits binary32 _ _; least = h .0; most = lt→le (randomOf index stream) i (is-true (lt (randomOf index stream) i) (h .1)) }
 
 -- ---- low + rest * draw, where rest is from 0 to 1 and low at most 1
-module _ (low rest draw : Float) (l : Mag low 1) (r : Mag rest 1) (h : T (le nought rest)) (d : Unit draw) where
+module _ (low rest draw : Float) (l : Mag low 1) (r : Mag rest 1) (h : T (le nought rest)) (d : Proportion draw) where
   abbrev drawn : Float
   drawn = add binary32 low (mul binary32 rest draw)
 
@@ -126,7 +126,7 @@ module _ (low rest draw : Float) (l : Mag low 1) (r : Mag rest 1) (h : T (le nou
       (add-number binary32 low (mul binary32 rest draw) fl (mag-finite (mul binary32 rest draw) 1 part-mag)) (add-number binary32 low (mul binary32 rest i) fl (mag-finite (mul binary32 rest i) 1 (mul-mag binary32 rest i 1 1 (lit≤ tt) r (lit≤ tt))))
 
 -- ---- strength
-opening-unit : (shape : Shape) (index : ℕ) → Unit (openingOf shape index)
+opening-unit : (shape : Shape) (index : ℕ) → Proportion (openingOf shape index)
 unfolding openingOf ofBits sub add neg mul Ieee.sum Ieee.round Ieee.units Ieee.odd Ieee.size Ieee.span Ieee.climb le lt eq
 opening-unit Cloud index = one-unit
 opening-unit Sprinkle index =
@@ -140,11 +140,11 @@ opening-unit Sprinkle index =
       most = float-trans binary32 (add binary32 low (mul binary32 rest r)) (add binary32 low (mul binary32 rest i)) i (add-fits binary32 low (mul binary32 rest r)) (add-fits binary32 low (mul binary32 rest i)) i-fits (drawn-most low rest r (lit≤ tt) (lit≤ tt) tt d) tt;
     }
 
-strength-unit : (l : Float) → T (not (isNan l)) → Unit (register.strengthOf l)
-unfolding register.strengthOf ofBits le lt eq
+strength-unit : (l : Float) → T (not (isNan l)) → Proportion (register.registerStrength l)
+unfolding register.registerStrength ofBits le lt eq
 strength-unit l u =
     let b = strength-in l u in
-    record { held = add-fits binary32 _ _; least = float-trans binary32 nought register.lowOpening (register.strengthOf l) nought-fits (ofBits-fits binary32 0x3dcccccd) (add-fits binary32 _ _) tt (b .0); most = b .1 }
+    record { held = add-fits binary32 _ _; least = float-trans binary32 nought register.lowOpening (register.registerStrength l) nought-fits (ofBits-fits binary32 0x3dcccccd) (add-fits binary32 _ _) tt (b .0); most = b .1 }
 
 whole-mag : (x : Float) → WholeUpto 256 x → Mag x 256
 whole-mag nan w = w .is
@@ -157,7 +157,7 @@ module _ (index : ℕ) (hz maxHz : Float) (direction : Direction) (f : T (fits b
   octave-mag Sprinkle = whole-mag (registerOf index hz maxHz direction .octave) (octave-whole hz maxHz f h k (t .held) (t .from) index direction)
   octave-mag Cloud = lit≤ tt
 
-  register-unit : (shape : Shape) → Unit (registerBy shape index hz maxHz direction .strength)
+  register-unit : (shape : Shape) → Proportion (registerBy shape index hz maxHz direction .strength)
   unfolding registerBy registerOf
   register-unit Sprinkle =
       strength-unit _ (add-number binary32 (log2Of hz) (registerOf index hz maxHz direction .octave) (finite-number binary32 (log2Of hz) (log2-within hz f h k .finite)) (mag-finite (registerOf index hz maxHz direction .octave) 256 (octave-mag Sprinkle)))
@@ -218,7 +218,7 @@ wide-of Sprinkle index size p m h =
     wide size (add binary32 low (mul binary32 spread r)) p m h (add-fits binary32 low (mul binary32 spread r)) (drawn-mag low spread r (lit≤ tt) (lit≤ tt) tt d)
     (subst (λ (x : Float). T (le x (add binary32 low (mul binary32 spread r)))) low-alone (drawn-least low spread r (lit≤ tt) (lit≤ tt) tt d))
 
-wide-size : (shape : Shape) (c : Config) → Formed c → (index : ℕ) → T (lt nought (widthOf shape (mendedOf c .«size_octaves») index)) × T (finite (widthOf shape (mendedOf c .«size_octaves») index))
+wide-size : (shape : Shape) (c : Config) → FormedConfig c → (index : ℕ) → T (lt nought (widthOf shape (mendedOf c .«size_octaves») index)) × T (finite (widthOf shape (mendedOf c .«size_octaves») index))
 unfolding mendedOf heldTo ofBits le lt eq
 wide-size shape c w index =
     let x = finiteOr (c .«size_octaves») one in
@@ -241,9 +241,9 @@ attack-fits Cloud c index floor = by-direction (c .direction)
     by-direction Alternate = either (λ (x : Float). T (fits binary32 x)) (eqb (index % 2) 0) (f32 0x3f000000) (f32 0x3f59999a) (ofBits-fits binary32 0x3f000000) (ofBits-fits binary32 0x3f59999a)
 
 -- ---- THE CLAIM
-module _ (c : Config) (w : Formed c) (hop : c .«hop_samples» ≤ maxHop) (index : ℕ) (v : Voice) (o : Voiced v) (rate : Float) (r : T (lawfulRate (rate32 rate))) (sample : ℕ) (weights : List Float) where
+module _ (c : Config) (w : FormedConfig c) (hop : c .«hop_samples» ≤ maxHop) (index : ℕ) (v : Voice) (o : Voiced v) (rate : Float) (r : T (lawfulRate (rate32 rate))) (sample : ℕ) (weights : List Float) where
   pub newborn-fair : Fair (newbornOf index v (mendedOf c) rate sample weights)
-  unfolding newbornOf strengthOf envelopeOf ofBits
+  unfolding newbornOf strengthOf contourOf ofBits
   newborn-fair =
       let d = mendedOf c in
       let hz = v .«frequency_hz» in

@@ -10,7 +10,7 @@ use Rattle.sequences.specs.Default.{getD-any}
 use Rattle.sequences.specs.Pick.{pick}
 use Rattle.sequences.specs.Table.{table-at}
 use Rattle.pool.specs.declared.Particle.{Particle}
-use Rattle.windows.specs.Opening.{none}
+use Rattle.windows.specs.Opening.{emptyWindow}
 use Rattle.frame.specs.Shown.{nothing, shownOf}
 use Rattle.frame.specs.Windows.{windowOf, windowAt, windowsOf, pastShown}
 use Rattle.sequences.specs.Copied.{length-map, getD-map}
@@ -33,11 +33,11 @@ module _ (logs : List Float) (binHz maxHz : Float) (sample : ℕ) (rate : Float)
       ∙ ap (λ (s : Shown). windowOf logs binHz maxHz s (getD (s .partials) w 0)) here
 
 pub free-shows-none : (logs : List Float) (binHz maxHz : Float) (sample : ℕ) (rate : Float) (p : Particle) (w : ℕ) → p .active ≡ false
-    → windowOf logs binHz maxHz (shownOf sample rate p) (getD (shownOf sample rate p .partials) w 0) ≡ none
+    → windowOf logs binHz maxHz (shownOf sample rate p) (getD (shownOf sample rate p .partials) w 0) ≡ emptyWindow
 unfolding windowOf shownOf nothing pick
 free-shows-none logs binHz maxHz sample rate p w e = rw e (zeros w)
   where
-    zeros : (w : ℕ) → windowOf logs binHz maxHz nothing (getD (nothing .partials) w 0) ≡ none
+    zeros : (w : ℕ) → windowOf logs binHz maxHz nothing (getD (nothing .partials) w 0) ≡ emptyWindow
     zeros zero = refl
     zeros (suc zero) = refl
     zeros (suc (suc zero)) = refl

@@ -31,11 +31,11 @@ use Rattle.elementary.specs.Log2.{log2Of}
 use Rattle.elementary_laws.proofs.LogExact.{log2-fits}
 use Rattle.elementary_laws.proofs.LogRises.{least, most, log2-within}
 use Rattle.pool.specs.declared.Particle.{Particle}
-use Rattle.floats.specs.Names.{nil, one}
+use Rattle.floats.specs.Names.{zero32, one}
 use Rattle.frame.specs.declared.places.Shown.{Shown}
 use Rattle.frame.specs.Shown.{rootLogOf}
 use Rattle.frame.specs.Windows.{centerOf, radiusOf}
-use Rattle.floats_laws.proofs.Unit.{i, i-fits, nought-fits, one-and-nothing, to-nought, from-round}
+use Rattle.floats_laws.proofs.Proportions.{i, i-fits, nought-fits, one-and-nothing, to-nought, from-round}
 
 -- ---- the centre
 pub log-mag : (x : Float) → T (fits binary32 x) → T (lt nought x) → T (finite x) → Mag (log2Of x) 149
@@ -68,7 +68,7 @@ centre-mag logs s partial m l h g = add-mag binary32 (s .«root_log») (getD log
 pub radius-above : (width binHz hz : Float) → T (fits binary32 width) → T (lt nought width) → T (not (isNan width)) → T (lt nought (radiusOf width binHz hz))
 unfolding radiusOf max fits
 radius-above width binHz hz p h u =
-    let l = log2Of (add binary32 one (div binary32 (max binHz nil) (max hz one))) in
+    let l = log2Of (add binary32 one (div binary32 (max binHz zero32) (max hz one))) in
     rw (is-false (isNan width) u) (by-case (lt width l) (λ e. rw e (lt-le binary32 nought width l tt p (log2-fits _) h (lt→le width l e))) (λ e. rw e h))
 
 -- ---- no finite number is above the largest one, and 1 more than that is rounded back to it

@@ -29,11 +29,11 @@ use Rattle.windows.specs.Opening.{taperOf, cubic}
 use Rattle.windows_laws.proofs.Tapered.{taper-finite, taper-most}
 use Rattle.frame.specs.Freed.{elapsedOf, secondsOf, retirementOf}
 use Rattle.frame.specs.Shown.{powerOf, envelopeOf, passedOf, fadeOf, amplitudeOf}
-use Rattle.floats_laws.proofs.Unit.{i, nought-fits, Unit, product-unit}
+use Rattle.floats_laws.proofs.Proportions.{i, nought-fits, Proportion, product-unit}
 
 -- what the amplitude needs of a particle; a birth gives it
 pub record Timed (p : Particle) : Type 0 where
-  pub strength : Unit (p .strength)
+  pub strength : Proportion (p .strength)
   pub attack-fits : T (fits binary32 (p .attack))
   pub attack-above : T (lt nought (p .attack))
   pub attack-below : T (lt (p .attack) i)
@@ -45,13 +45,13 @@ pub record Rated (rate : Float) : Type 0 where
   pub rate-finite : T (finite rate)
   pub rate-above : T (lt nought rate)
 
-taper-unit : (x : Float) → T (fits binary32 x) → T (not (isNan x)) → Unit (taperOf x)
+taper-unit : (x : Float) → T (fits binary32 x) → T (not (isNan x)) → Proportion (taperOf x)
 unfolding taperOf cubic
 taper-unit x p u = record { held = mul-fits binary32 _ _; least = taper-finite x p u .1; most = taper-most x p u }
 
-power-unit : (x : Float) (power : ℕ) → Unit x → Unit (powerOf x power)
+power-unit : (x : Float) (power : ℕ) → Proportion x → Proportion (powerOf x power)
 unfolding powerOf
-power-unit x power u = either Unit (eqb power 3) (mul binary32 (mul binary32 x x) x) x (product-unit (product-unit u u) u) u
+power-unit x power u = either Proportion (eqb power 3) (mul binary32 (mul binary32 x x) x) x (product-unit (product-unit u u) u) u
 
 -- ---- 1 less what is below 1 is above 0, however near it is: it is 2^-149 at least
 smallest : Float
@@ -95,7 +95,7 @@ module _ (rate : Float) (r : Rated rate) (sample : ℕ) where
   retirement-number Not = tt
   retirement-number (At since) = quotient-number binary64 (secondsOf since sample rate) (f64 0x3f947ae147ae147b) (seconds-number since) tt tt
 
-  fade-unit : (p : Particle) → Unit (fadeOf sample rate p)
+  fade-unit : (p : Particle) → Proportion (fadeOf sample rate p)
   unfolding fadeOf ofBits
   fade-unit p =
       let x = convert binary32 (retirementOf (p .retirement) sample rate) in
@@ -106,17 +106,17 @@ module _ (rate : Float) (r : Rated rate) (sample : ℕ) where
     unfolding passedOf
     passed-number = convert-number binary32 _ (quotient-number binary64 (secondsOf (p .birth) sample rate) (p .lifetime) (seconds-number (p .birth)) (t .lifetime-finite) (t .lifetime-above))
 
-    envelope-unit : Unit (envelopeOf (passedOf sample rate p) (p .attack) (p .«decay_power»))
+    envelope-unit : Proportion (envelopeOf (passedOf sample rate p) (p .attack) (p .«decay_power»))
     unfolding envelopeOf ofBits
     envelope-unit =
         let x = passedOf sample rate p in
         let a = p .attack in
         let l = left-above a (t .attack-fits) (t .attack-above) (t .attack-below) in
-        either Unit (lt x a) (taperOf (div binary32 x a)) (powerOf (taperOf (div binary32 (sub binary32 i x) (sub binary32 i a))) (p .«decay_power»))
+        either Proportion (lt x a) (taperOf (div binary32 x a)) (powerOf (taperOf (div binary32 (sub binary32 i x) (sub binary32 i a))) (p .«decay_power»))
         (taper-unit (div binary32 x a) (div-fits binary32 x a) (quotient-number binary32 x a passed-number (attack-finite a (t .attack-above) (t .attack-below)) (t .attack-above)))
         (power-unit (taperOf (div binary32 (sub binary32 i x) (sub binary32 i a))) (p .«decay_power»)
         (taper-unit (div binary32 (sub binary32 i x) (sub binary32 i a)) (div-fits binary32 (sub binary32 i x) (sub binary32 i a)) (quotient-number binary32 (sub binary32 i x) (sub binary32 i a) (one-number binary32 x passed-number) (l .1) (l .0))))
 
-    pub amplitude-unit : Unit (amplitudeOf sample rate p)
+    pub amplitude-unit : Proportion (amplitudeOf sample rate p)
     unfolding amplitudeOf
     amplitude-unit = product-unit (product-unit (t .strength) envelope-unit) (fade-unit p)

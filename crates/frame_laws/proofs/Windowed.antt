@@ -17,11 +17,11 @@ use Rattle.powers.specs.Power.{exp2}
 use Rattle.elementary_laws.proofs.PowerValues.{power-fits}
 use Rattle.pool.specs.declared.Particle.{Particle}
 use Rattle.windows.specs.declared.Window.{Window}
-use Rattle.windows.specs.Opening.{none}
+use Rattle.windows.specs.Opening.{emptyWindow}
 use Rattle.frame.specs.declared.places.Shown.{Shown}
 use Rattle.frame.specs.Shown.{rootLogOf, amplitudeOf, nothing, shownOf}
-use Rattle.frame.specs.Windows.{centerOf, placedOf, windowOf}
-use Rattle.floats_laws.proofs.Unit.{Unit}
+use Rattle.frame.specs.Windows.{centerOf, windowBy, windowOf}
+use Rattle.floats_laws.proofs.Proportions.{Proportion}
 use Rattle.frame_laws.proofs.Strengths.{Timed, Rated, amplitude-unit}
 use Rattle.frame_laws.proofs.Shapes.{Pitched, Logs, root-mag, centre-mag, radius-above, radius-finite}
 
@@ -34,22 +34,22 @@ pub record Good (binHz : Float) (w : Window) : Type 0 where
   pub centre : T (finite (w .«center_log2_hz»))
   pub above : T (lt nought (w .«radius_octaves»))
   pub radius : T (fits binary32 binHz) → T (finite binHz) → T (finite (w .«radius_octaves»))
-  pub amplitude : Unit (w .amplitude)
+  pub amplitude : Proportion (w .amplitude)
 
 -- the same of what it shows
 record Fit (s : Shown) : Type 0 where
   root : Mag (s .«root_log») 405
-  amplitude : Unit (s .amplitude)
+  amplitude : Proportion (s .amplitude)
   width-fits : T (fits binary32 (s .width))
   width-above : T (lt nought (s .width))
   width-finite : T (finite (s .width))
 
 abbrev NoneOrGood : Float → Window → Type 0
-NoneOrGood binHz w = (w ≡ none) ⊎ Good binHz w
+NoneOrGood binHz w = (w ≡ emptyWindow) ⊎ Good binHz w
 
 module _ (logs : List Float) (l : Logs logs) (binHz maxHz : Float) where
-  placed : (s : Shown) → Fit s → (partial : ℕ) → 0 < partial → partial ≤ 24 → NoneOrGood binHz (placedOf binHz maxHz s (centerOf logs s partial))
-  unfolding placedOf pick exp2
+  placed : (s : Shown) → Fit s → (partial : ℕ) → 0 < partial → partial ≤ 24 → NoneOrGood binHz (windowBy binHz maxHz s (centerOf logs s partial))
+  unfolding windowBy pick exp2
   placed s f partial h g =
       let c = centerOf logs s partial in
       let hz = exp2 c in

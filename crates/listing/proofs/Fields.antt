@@ -21,7 +21,7 @@ use Rattle.script_steps.specs.declared.Reply.{Reply}
 use Rattle.script_steps.specs.declared.Reply.the-variants as R
 use Rattle.script_steps.specs.declared.Run.{Run}
 use Rattle.script_steps.specs.declared.Stepped.{Stepped}
-use Rattle.script_steps.specs.Steps.{doneOf, firedOf, quietOf, framedOf, frameOf, stepOf}
+use Rattle.script_steps.specs.Steps.{doneOf, firedOf, quietOf, framedStep, frameOf, stepOf}
 use Rattle.script_steps.specs.Replies.{replyOf, outcomeReply}
 use Rattle.script_steps.proofs.Together.{answered-is, outcome-is}
 use Rattle.listing.specs.declared.turns.Said.{Said}
@@ -48,16 +48,16 @@ module _ (run : Run) (e : Engine) (f : Frame) (r : Reply) where
   by-quiet d d′ is p q w = same d (run .frame) R.Quiet p q w ∙ ap (quietOf run) is
 
   module _ (g g′ : Framed) (is : g ≡ g′) (p : e ≡ g .engine) where
-    framed-as : left e f r ≡ frameOf run (g .engine) (g .frame) (g .answer) → left e f r ≡ framedOf run g′
-    framed-as h = h ∙ ap (framedOf run) is
+    framed-as : left e f r ≡ frameOf run (g .engine) (g .frame) (g .answer) → left e f r ≡ framedStep run g′
+    framed-as h = h ∙ ap (framedStep run) is
 
-    pub by-frame : (v : Values) → g .answer ≡ A.Taken → f ≡ g .frame → v ≡ valuesOf (g .engine) (g .frame .activity) → r ≡ R.Framed v → left e f r ≡ framedOf run g′
+    pub by-frame : (v : Values) → g .answer ≡ A.Taken → f ≡ g .frame → v ≡ valuesOf (g .engine) (g .frame .activity) → r ≡ R.Framed v → left e f r ≡ framedStep run g′
     by-frame v taken q w u =
         framed-as
         (same (g .engine) (g .frame) (R.Framed (valuesOf (g .engine) (g .frame .activity))) p q (u ∙ ap R.Framed w)
         ∙ sym (ap (λ (a : Answer). frameOf run (g .engine) (g .frame) a) taken))
 
-    pub by-no-frame : (x : Refusal) → g .answer ≡ A.Refused x → f ≡ run .frame → r ≡ R.Refused x → left e f r ≡ framedOf run g′
+    pub by-no-frame : (x : Refusal) → g .answer ≡ A.Refused x → f ≡ run .frame → r ≡ R.Refused x → left e f r ≡ framedStep run g′
     by-no-frame x refused q u =
         framed-as
         (same (g .engine) (run .frame) (R.Refused x) p q u

@@ -10,7 +10,7 @@ use lib.Seq.{drop-drop}
 use borrow.Author.Tests.{eq-eqb, ne-eqb, eqb-true, eqb-false}
 use Rattle.floats.proofs.Sat.{no}
 use Rattle.sequences.specs.Pick.{pick, picked, passed, by-case, took, skipped}
-use Rattle.state.specs.State.{grown}
+use Rattle.floats.specs.Word.{grown}
 use Rattle.script_steps.specs.declared.Run.{Run}
 use Rattle.script_steps.specs.Steps.{fresh}
 use Rattle.listing.specs.declared.lines.Line.{Line}

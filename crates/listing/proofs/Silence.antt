@@ -10,7 +10,7 @@ use lib.Seq.{drop-drop}
 use borrow.Author.Tests.{ne-eqb}
 use Rattle.floats.proofs.Sat.{no}
 use Rattle.sequences.specs.Pick.{picked, passed, by-case}
-use Rattle.state.specs.State.{grown}
+use Rattle.floats.specs.Word.{grown}
 use Rattle.text.specs.Put.{Put}
 use Rattle.script_steps.specs.declared.Run.{Run}
 use Rattle.listing.specs.declared.lines.Line.{Line}

@@ -1,12 +1,10 @@
 -- Laws of a turn: how many bytes it takes; and a start of 0 samples is an ordinary one.
-use Prim.Native.Nat.{ℕ, suc, _+_, _-_, _≤_, zero-le}
+use Prim.Native.Nat.{ℕ, _-_, _≤_, zero-le}
 use mathlib.Core.Path.{_≡_, refl, ap, _∙_}
 use mathlib.Core.Bool.{Bool, true, false}
 use mathlib.Core.List.{List}
-use native.Mathlib.Numerals.{add-one}
 use lib.ListN.{length, drop, length-drop}
 use lib.Dec.{eqb}
-use Rattle.sequences.specs.Pick.{pick}
 use Rattle.refusals.specs.declared.Refusal.{Refusal}
 use Rattle.script.specs.declared.Read.{Read}
 use Rattle.script.specs.declared.Read.the-variants as S
@@ -19,8 +17,7 @@ use Rattle.script_steps.specs.Steps.{stepOf}
 use Rattle.listing.specs.declared.turns.Said.{Said}
 use Rattle.listing.specs.declared.turns.Turn.{Turn}
 use Rattle.listing.specs.Saying.{refusalSaid, saidOf}
-use Rattle.listing.specs.Turns.{toldOf, refusalOf, repliedOf, afterOf, turnOf, turnsFrom, turnsOf}
-use Rattle.listing.specs.TurnsLate.{countedOf, turnsLate}
+use Rattle.listing.specs.Turns.{toldOf, refusalOf, repliedOf, afterOf, turnOf}
 
 refusal-taken : (b : Bool) (run : Run) (n k : ℕ) (r : Refusal) (m : ℕ) → k ≤ m → refusalOf b run n k r .taken ≤ m
 refusal-taken true run n k r m h = zero-le
@@ -60,11 +57,6 @@ after-three run n m S.End end z = absurd (z refl)
 pub turn-three : (run : Run) (n : ℕ) (s : List ℕ) → (turnOf run n s .taken ≡ 0 → ⊥) → 3 ≤ turnOf run n s .taken
 unfolding turnOf
 turn-three run n s = after-three run n (length s) (readOf s (eqb n 1)) (taken s (eqb n 1))
-
--- each field takes a byte at least, so that as many turns as bytes are enough
-pub turns-zero : (s : List ℕ) → turnsLate 0 s ≡ turnsOf s
-unfolding turnsLate turnsFrom countedOf pick
-turns-zero s = rw (add-one (length s))
 
 -- the run with what the turn says
 refusal-said : (b : Bool) (run : Run) (n k : ℕ) (r : Refusal) → toldOf run (refusalSaid b n k r .line) (refusalSaid b n k r .taken) ≡ refusalOf b run n k r

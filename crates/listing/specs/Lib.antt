@@ -1,10 +1,8 @@
 pub mod Printed
 pub mod Listed
-pub mod Late
 pub mod Ended
 pub mod Lines
 pub mod Turns
 pub mod Last
-pub mod TurnsLate
 pub mod Reaching
 pub mod Saying

@@ -40,7 +40,7 @@ fn end_of(turn: Turn) -> Ended
 pub fn run_script(script: &[u8]) -> Ended
     ensures { λ r. ⌜ r ≡ ranOf (now (script .entry)) ⌝ }
 {
-    if script.len() <= 60000 {
+    if script.len() <= script::MAX_SCRIPT_BYTES {
         end_of(turns::last_turn(script))
     } else {
         ran(script_steps::fresh(), Answer::Refused(Refusal::Script))

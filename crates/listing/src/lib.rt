@@ -4,11 +4,8 @@ ghost use mathlib.Core.Path.{_≡_};
 ghost use Prim.Native.Nat.{_+_, _-_, _<_, _≤_};
 ghost use lib.ListN.{length, drop};
 ghost use Rattle.text.specs.Put.{Put};
-ghost use Rattle.listing.specs.Lines.{textAll};
-ghost use Rattle.listing.specs.TurnsLate.{turnsLate};
-ghost use Rattle.listing.specs.Printed.{linesOf, textFrom};
+ghost use Rattle.listing.specs.Printed.{textFrom, printed};
 ghost use Rattle.listing.specs.Listed.{roomFor, listedOf, leftIn};
-ghost use Rattle.listing.specs.Late.{printedLate, listedLate, leftLate};
 use refusals::Refusal;
 use script_steps::Run;
 use turns::next_line;
@@ -22,7 +19,6 @@ pub use ending::run_script;
 pub use lines::Line;
 pub use lines::put_line;
 pub use turns::Reached;
-pub use turns::counted;
 pub use turns::next_frame;
 pub use turns::one_turn;
 
@@ -57,49 +53,25 @@ fn list_fields(run: Run, n: u64, at: usize, w: usize, script: &[u8], out: &mut [
     }
 }
 
-// The lines of a script of lawful size.
-fn list_turns(start: u64, script: &[u8], out: &mut [u8]) -> usize
-    ensures { λ r. ⌜ Put (now (out .entry)) (now (out .exit)) 0 r (textAll (linesOf (turnsLate start (now (script .entry))))) ⌝ }
+fn listing(script: &[u8], out: &mut [u8]) -> usize
+    ensures { λ r. ⌜ Put (now (out .entry)) (now (out .exit)) 0 r (printed (now (script .entry))) ⌝ }
 {
-    let turn = one_turn(script_steps::fresh(), 1, script);
-    let line = turn.line;
-    let w = lines::put_line(out, 0, line);
-    let k = turn.taken;
-    if k == 0 {
-        return w;
-    }
-    let run = counted(turn.run, start);
-    list_fields(run, 2, k, w, script, out)
-}
-
-fn listing(start: u64, script: &[u8], out: &mut [u8]) -> usize
-    ensures { λ r. ⌜ Put (now (out .entry)) (now (out .exit)) 0 r (printedLate start (now (script .entry))) ⌝ }
-{
-    if script.len() <= 60000 {
-        list_turns(start, script, out)
+    if script.len() <= script::MAX_SCRIPT_BYTES {
+        list_fields(script_steps::fresh(), 1, 0, 0, script, out)
     } else {
         lines::put_line(out, 0, Line::Bad(0, Refusal::Script))
     }
 }
 
 // Room for the longest listing of a script of n bytes.
-fn room(n: usize) -> usize
+pub fn room(n: usize) -> usize
     ensures { λ r. ⌜ r ≡ roomFor n ⌝ }
 {
-    if n <= 60000 { 68 * n + 204 } else { 204 }
-}
-
-// The listing of a script whose engine has counted `start` samples when it is made, for the
-// comparison with the Rust near the limit of samples.
-pub fn list_script_from(start: u64, script: &[u8], out: &mut [u8]) -> Listed
-    ensures { λ r. ⌜ (r ≡ listedLate start (length (now (out .entry))) (now (script .entry))) × (now (out .exit) ≡ leftLate start (now (out .entry)) (now (script .entry))) ⌝ }
-{
-    let needed = room(script.len());
-    if out.len() < needed {
-        return Listed::Refused(Refusal::Room);
+    if n <= script::MAX_SCRIPT_BYTES {
+        68 * n + 204
+    } else {
+        204
     }
-    let n = listing(start, script, out);
-    Listed::Count(n)
 }
 
 // What the script prints, at the start of `out`, and the count of its bytes; 13, and `out` as it was,
@@ -107,5 +79,10 @@ pub fn list_script_from(start: u64, script: &[u8], out: &mut [u8]) -> Listed
 pub fn list_script(script: &[u8], out: &mut [u8]) -> Listed
     ensures { λ r. ⌜ (r ≡ listedOf (length (now (out .entry))) (now (script .entry))) × (now (out .exit) ≡ leftIn (now (out .entry)) (now (script .entry))) ⌝ }
 {
-    list_script_from(0, script, out)
+    let needed = room(script.len());
+    if out.len() < needed {
+        return Listed::Refused(Refusal::Room);
+    }
+    let n = listing(script, out);
+    Listed::Count(n)
 }

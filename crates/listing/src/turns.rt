@@ -6,7 +6,6 @@ ghost use Rattle.listing.specs.Last.{lastTurn};
 ghost use Rattle.listing.specs.Reaching.{isSilent, isFrameless, goesOn, reachedAt, reachedOf};
 ghost use Rattle.listing.specs.declared.turns.Until.the-variants as Until;
 ghost use Rattle.listing.specs.Saying.{saysOf, saidOf};
-ghost use Rattle.listing.specs.TurnsLate.{countedOf};
 use crate::lines::Line;
 use refusals::Answer;
 use script::Field;
@@ -14,7 +13,6 @@ use script::Read;
 use script_steps::Reply;
 use script_steps::Run;
 use sources::Source;
-use state::Clock;
 
 // One turn: the run after it, its line, and how many bytes of script it took, 0 to stop.
 pub struct Turn {
@@ -278,23 +276,4 @@ pub fn last_turn(script: &[u8]) -> Turn
 {
     let reached = take_turns(Until::End, script_steps::fresh(), 1, script);
     reached.turn
-}
-
-// Where the first field made an engine, it has counted `start` samples, for the comparison with the
-// Rust near the limit of samples. A new engine has counted 0.
-pub fn counted(run: Run, start: u64) -> Run
-    ensures { λ r. ⌜ r ≡ countedOf start run ⌝ }
-{
-    if start == 0 {
-        return run;
-    }
-    let frame = run.frame;
-    let mut engine = run.engine;
-    let clock = Clock {
-        sample: start,
-        phase: engine.clock.phase,
-        phase_offset: engine.clock.phase_offset,
-    };
-    engine.clock = clock;
-    Run { engine, frame }
 }

@@ -14,12 +14,12 @@ use Rattle.sequences.specs.Table.{length-table}
 use Rattle.floats.specs.Names.{div32, asFloat}
 use Rattle.refusals.specs.declared.Answer.{Answer}
 use Rattle.settings.specs.Settings.{lawfulRate}
-use Rattle.script.specs.declared.fields.Kind.{Kind}
-use Rattle.script.specs.declared.fields.Kind.the-variants as K
-use Rattle.script.specs.Bytes.{be16, be32, f32At}
+use Rattle.script.specs.declared.tags.Kind.{Kind}
+use Rattle.script.specs.declared.tags.Kind.the-variants as K
+use Rattle.big_endian.specs.Numbers.{be16, be32, f32At}
 use Rattle.script.specs.Table.{kindOf, lawful, lengthOf, fieldOf}
 use Rattle.script.specs.Field.{bodyOf, misplaced, unknown, readOf}
-use Rattle.mask_gains.specs.Bins.{logAt, logsOf, preparedOf}
+use Rattle.mask_gains.specs.Bins.{logAt, logsOf, binTableOf}
 use Rattle.mask_gains.specs.Logs.{lawfulLogs}
 use Rattle.mask_laws.proofs.Prepared.{prepared-lawful}
 use Rattle.mask_files.specs.Masks.{standard, rateIn, rateBy, rateOf, binsOf, logsFor}
@@ -87,8 +87,8 @@ module _ (script : List ℕ) (size : ℕ) (some : 1 ≤ size) (most : size ≤ 1
   logs-count = length-table (binsOf size) (logAt (div32 (rateOf script) (asFloat size)))
 
   -- what `prepare` leaves in as many places
-  pub prepared-is : (old new : List Float) (a : Answer) → length old ≡ binsOf size → (a, new) ≡ preparedOf (rateOf script) size old → new ≡ logsFor script size
-  unfolding preparedOf logsFor
+  pub prepared-is : (old new : List Float) (a : Answer) → length old ≡ binsOf size → (a, new) ≡ binTableOf (rateOf script) size old → new ≡ logsFor script size
+  unfolding binTableOf logsFor
   prepared-is old new a n e =
       ap (λ (x : Answer × List Float). x .1)
       (e ∙ sym (picked _ _ _ (script-rate script .lawful)) ∙ sym (passed _ _ _ (le-ltb _ _ some)) ∙ sym (passed _ _ _ (le-ltb _ _ most)) ∙ sym (picked _ _ _ (eq-eqb _ _ n)))

@@ -16,7 +16,7 @@ use Rattle.mask_files.specs.declared.Made.{Made}
 use Rattle.mask_files.specs.declared.Made.the-variants as M
 use Rattle.mask_files.specs.declared.Step.{Step}
 use Rattle.mask_files.specs.declared.Walk.{Walk}
-use Rattle.mask_files.specs.Walk.{startOf, afterOf, stepBy, reachOf, stepOf}
+use Rattle.mask_files.specs.Walk.{startOf, walkAfter, stepBy, reachOf, stepOf}
 use Rattle.mask_files.proofs.Passing.{frame-takes}
 use Rattle.mask_files.proofs.Steps.{reached, reach-fits}
 
@@ -38,9 +38,9 @@ module _ (walk : Walk) (script : List ℕ) (inside : walk .at ≤ length script)
   r = reachOf walk script
 
   abbrev step-at : Line → Step
-  step-at l = stepBy (afterOf walk r) (r .turn .run .frame) l depth logs scratch out at .0
+  step-at l = stepBy (walkAfter walk r) (r .turn .run .frame) l depth logs scratch out at .0
 
-  frame-moves : isFrameless (r .turn .line) ≡ false → (walk .at < afterOf walk r .at) × (afterOf walk r .at ≤ length script)
+  frame-moves : isFrameless (r .turn .line) ≡ false → (walk .at < walkAfter walk r .at) × (walkAfter walk r .at ≤ length script)
   unfolding r
   frame-moves h =
       let p = reached walk script (reachOf walk script) refl nan [] in

@@ -12,7 +12,7 @@ use Rattle.refusals.specs.declared.Answer.the-variants.{Taken, Refused}
 use Rattle.refusals.specs.declared.Refusal.{Refusal}
 use Rattle.script_steps.specs.Steps.{fresh}
 use Rattle.listing.specs.Turns.{turnsOf}
-use Rattle.mask_records.specs.Placed.{sizeOf}
+use Rattle.mask_records.specs.Placed.{recordSize}
 use Rattle.mask_files.specs.declared.Measured.{Measured}
 use Rattle.mask_files.specs.declared.Walk.{Walk}
 use Rattle.mask_files.specs.Records.{filedOf}
@@ -84,7 +84,7 @@ module _ (depth : Float) (logs : List Float) (script : List ℕ) where
         made : (x y : ℕ) (c d : Answer) → x ≡ y → c ≡ d → _≡_ {A = Measured} (record { bytes = x; answer = c }) (record { bytes = y; answer = d })
         made x y c d p q = rw (p, q)
 
-    pub measuring-stops : (room : ℕ) (r : Refusal) (a : Answer) → a ≡ Refused r → sizeOf (length logs) ≤ room → Unrecorded (leftOf depth logs script walk) room (sizeOf (length logs)) 0 r
+    pub measuring-stops : (room : ℕ) (r : Refusal) (a : Answer) → a ≡ Refused r → recordSize (length logs) ≤ room → Unrecorded (leftOf depth logs script walk) room (recordSize (length logs)) 0 r
         → record { bytes = bytes; answer = a } ≡ measuredOf (wholeOf depth logs script)
     measuring-stops room r a s fits (ends e) = measuring-ends a (Refused r) s e
     measuring-stops room r a s fits (full h g) = absurd (omega arith)
@@ -131,6 +131,6 @@ module _ (depth : Float) (logs : List Float) (script o : List ℕ) (start : ℕ)
         → (at ≡ start + length (wholeOf depth logs script .0)) × (out ≡ splice o start (wholeOf depth logs script .0))
     writing-ends a h e = g .goes out at (subst (λ (x : List ℕ × Answer). Put out out at at (x .0)) (sym e) (nothing out at)) .fits h
 
-    pub writing-stops : (r : Refusal) → Unrecorded (leftOf depth logs script walk) (length out) (sizeOf (length logs)) at r → ⊥
+    pub writing-stops : (r : Refusal) → Unrecorded (leftOf depth logs script walk) (length out) (recordSize (length logs)) at r → ⊥
     writing-stops r (ends e) = refused-not r (sym (ap (λ (x : List ℕ × Answer). x .1) e) ∙ g .taken)
     writing-stops r (full h s) = let fits = g .room in omega arith

@@ -16,7 +16,7 @@ use Rattle.mask_files.specs.declared.Filed.{Filed}
 use Rattle.mask_files.specs.declared.Filed.the-variants.{Upto, Refused}
 use Rattle.mask_files.specs.declared.Measured.{Measured}
 use Rattle.mask_files.specs.Records.{filedOf}
-use Rattle.mask_files.specs.Masks.{logsFor, placedBy, placedOf, masksOf}
+use Rattle.mask_files.specs.Masks.{logsFor, placedBy, filedInto, masksOf}
 use Rattle.mask_files.specs.Walk.{measuredOf}
 
 -- ---- by what was measured
@@ -27,19 +27,19 @@ module _ (filed : List ℕ × Answer) (m : Measured) (is : m ≡ measuredOf file
   pub ended-so : (a : Answer) → m .answer ≡ a → filed .1 ≡ a
   ended-so a e = sym (ap (λ (x : Measured). x .answer) is) ∙ e
 
-  by-end : (a : Answer) → m .answer ≡ a → (x : Filed × List ℕ) → x ≡ placedBy (filed .0) a out at → x ≡ placedOf filed out at
+  by-end : (a : Answer) → m .answer ≡ a → (x : Filed × List ℕ) → x ≡ placedBy (filed .0) a out at → x ≡ filedInto filed out at
   by-end a e x p = p ∙ ap (λ (b : Answer). placedBy (filed .0) b out at) (sym (ended-so a e))
 
-  pub refused-end : (r : Refusal) → m .answer ≡ A.Refused r → (Refused r, out) ≡ placedOf filed out at
+  pub refused-end : (r : Refusal) → m .answer ≡ A.Refused r → (Refused r, out) ≡ filedInto filed out at
   refused-end r e = by-end (A.Refused r) e _ refl
 
-  pub no-room : m .answer ≡ A.Taken → length out < at + m .bytes → (Refused Room, out) ≡ placedOf filed out at
+  pub no-room : m .answer ≡ A.Taken → length out < at + m .bytes → (Refused Room, out) ≡ filedInto filed out at
   no-room e h = by-end A.Taken e _ (skipped _ _ _ _ (lt-leb _ _ (rw (bytes-are) at h)) refl)
 
   pub room : at + m .bytes ≤ length out → at + length (filed .0) ≤ length out
   room h = rw (bytes-are) at h
 
-  pub written : m .answer ≡ A.Taken → at + m .bytes ≤ length out → (p : ℕ) (new : List ℕ) → (p ≡ at + length (filed .0)) × (new ≡ splice out at (filed .0)) → (Upto p, new) ≡ placedOf filed out at
+  pub written : m .answer ≡ A.Taken → at + m .bytes ≤ length out → (p : ℕ) (new : List ℕ) → (p ≡ at + length (filed .0)) × (new ≡ splice out at (filed .0)) → (Upto p, new) ≡ filedInto filed out at
   written e h p new w =
       by-end A.Taken e _
       (took _ _ _ _ (le-leb _ _ (room h)) (ap (λ (k : ℕ). (Upto k, new)) (w .0) ∙ ap (λ (x : List ℕ). (Upto (at + length (filed .0)), x)) (w .1)))
@@ -60,6 +60,6 @@ module _ (script : List ℕ) (size : ℕ) (depth : Float) (out : List ℕ) (at :
       unfolding masksOf
       long-script h = skipped _ _ _ _ (le-ltb _ _ some) (skipped _ _ _ _ (le-ltb _ _ most) (took _ _ _ _ (lt-ltb _ _ h) refl))
 
-      pub placed : length script ≤ 60000 → (x : Filed × List ℕ) → x ≡ placedOf (filedOf depth (logsFor script size) (turnsOf script)) out at → x ≡ masksOf script size depth out at
+      pub placed : length script ≤ 60000 → (x : Filed × List ℕ) → x ≡ filedInto (filedOf depth (logsFor script size) (turnsOf script)) out at → x ≡ masksOf script size depth out at
       unfolding masksOf
       placed h x e = skipped _ _ _ _ (le-ltb _ _ some) (skipped _ _ _ _ (le-ltb _ _ most) (skipped _ _ _ _ (le-ltb _ _ h) e))

@@ -16,7 +16,7 @@ use Rattle.refusals.specs.declared.Answer.{Answer}
 use Rattle.refusals.specs.declared.Answer.the-variants.{Taken, Refused}
 use Rattle.refusals.specs.declared.Refusal.{Refusal}
 use Rattle.refusals.specs.declared.Refusal.the-variants.{Room, Attenuation}
-use Rattle.state.specs.State.{grown}
+use Rattle.floats.specs.Word.{grown}
 use Rattle.windows.specs.declared.Frame.{Frame}
 use Rattle.mask_gains.specs.Logs.{lawfulLogs}
 use Rattle.script_steps.specs.declared.values.Values.{Values}
@@ -31,7 +31,7 @@ use Rattle.listing.specs.Ended.{badOf}
 use Rattle.mask_records.specs.declared.Written.{Written}
 use Rattle.mask_records.specs.declared.Written.the-variants as W
 use Rattle.mask_records.specs.Bytes.{recordOf}
-use Rattle.mask_records.specs.Placed.{sizeOf}
+use Rattle.mask_records.specs.Placed.{recordSize}
 use Rattle.mask_records.specs.Written.{entriesOf, scratchOf, writtenOf}
 use Rattle.mask_records.proofs.Pairs.{record-length}
 use Rattle.mask_laws.proofs.Frames.{entries-count}
@@ -40,7 +40,7 @@ use Rattle.mask_files.specs.declared.Made.the-variants as M
 use Rattle.mask_files.specs.declared.Step.{Step}
 use Rattle.mask_files.specs.declared.Walk.{Walk}
 use Rattle.mask_files.specs.Records.{allNumbers, filedBy}
-use Rattle.mask_files.specs.Walk.{afterOf, madeOf, stepBy, reachOf, stepOf}
+use Rattle.mask_files.specs.Walk.{walkAfter, madeOf, stepBy, reachOf, stepOf}
 use Rattle.mask_files.proofs.Passing.{filedFrom, Passed, passing, last-takes-none, frame-takes, last-turn, one-turn}
 
 -- ---- where the field that is reached stands
@@ -71,7 +71,7 @@ Both = Written × List Float × List ℕ
 module _ (sample : ℕ) (f : Frame) (depth : Float) (logs scratch : List Float) (out : List ℕ) (at : ℕ) (bins : Bins logs scratch) where
   written-is : (x : Both)
       → x ≡ pick (allNumbers f depth logs)
-      (pick (leb (at + sizeOf (length logs)) (length out)) (W.Upto (at + sizeOf (length logs)), scratchOf f depth logs scratch, splice out at (recordOf sample (entriesOf f depth logs))) (W.Refused Room, scratch, out))
+      (pick (leb (at + recordSize (length logs)) (length out)) (W.Upto (at + recordSize (length logs)), scratchOf f depth logs scratch, splice out at (recordOf sample (entriesOf f depth logs))) (W.Refused Room, scratch, out))
       (W.Refused Attenuation, scratch, out)
       → x ≡ writtenOf sample f depth logs scratch out at
   unfolding writtenOf allNumbers
@@ -79,11 +79,11 @@ module _ (sample : ℕ) (f : Frame) (depth : Float) (logs scratch : List Float) 
       took _ _ _ _ (eq-eqb _ _ (bins .places))
       (took _ _ _ _ (bins .lawful) (skipped _ _ _ _ (le-ltb _ _ (bins .some)) (skipped _ _ _ _ (le-ltb _ _ (bins .few)) e)))
 
-  pub recorded : allNumbers f depth logs ≡ true → at + sizeOf (length logs) ≤ length out
-      → (W.Upto (at + sizeOf (length logs)), scratchOf f depth logs scratch, splice out at (recordOf sample (entriesOf f depth logs))) ≡ writtenOf sample f depth logs scratch out at
+  pub recorded : allNumbers f depth logs ≡ true → at + recordSize (length logs) ≤ length out
+      → (W.Upto (at + recordSize (length logs)), scratchOf f depth logs scratch, splice out at (recordOf sample (entriesOf f depth logs))) ≡ writtenOf sample f depth logs scratch out at
   recorded a h = written-is _ (took _ _ _ _ a (took _ _ _ _ (le-leb _ _ h) refl))
 
-  pub unplaced : allNumbers f depth logs ≡ true → leb (at + sizeOf (length logs)) (length out) ≡ false → (W.Refused Room, scratch, out) ≡ writtenOf sample f depth logs scratch out at
+  pub unplaced : allNumbers f depth logs ≡ true → leb (at + recordSize (length logs)) (length out) ≡ false → (W.Refused Room, scratch, out) ≡ writtenOf sample f depth logs scratch out at
   unplaced a h = written-is _ (took _ _ _ _ a (skipped _ _ _ _ h refl))
 
   pub no-number : allNumbers f depth logs ≡ false → (W.Refused Attenuation, scratch, out) ≡ writtenOf sample f depth logs scratch out at
@@ -102,7 +102,7 @@ pub record Stands (script : List ℕ) (w : Walk) : Type 0 where
 -- a record was written: these bytes, and what is left behind them
 pub record Recorded (depth : Float) (logs : List Float) (script : List ℕ) (walk next : Walk) (out new : List ℕ) (at after : ℕ) : Type 0 where
   pub bytes : List ℕ
-  pub size : length bytes ≡ sizeOf (length logs)
+  pub size : length bytes ≡ recordSize (length logs)
   pub room : at + length bytes ≤ length out
   pub place : after ≡ at + length bytes
   pub buffer : new ≡ splice out at bytes
@@ -117,7 +117,7 @@ pub data Unrecorded (left : List ℕ × Answer) (room size at : ℕ) (r : Refusa
 
 abbrev pub Tells : Float → List Float → List ℕ → Walk → Walk → List ℕ → List ℕ → ℕ → Made → Type 0
 Tells depth logs script walk next out new at (M.Record after) = Recorded depth logs script walk next out new at after
-Tells depth logs script walk next out new at (M.Refused n r) = Unrecorded (leftOf depth logs script walk) (length out) (sizeOf (length logs)) at r
+Tells depth logs script walk next out new at (M.Refused n r) = Unrecorded (leftOf depth logs script walk) (length out) (recordSize (length logs)) at r
 Tells depth logs script walk next out new at (M.Last line) = (new ≡ out) × (leftOf depth logs script walk ≡ ([], badOf line))
 
 module _ (depth : Float) (logs : List Float) (script : List ℕ) (top : length script + 1 < 2 ^ 64) (walk : Walk) (here : Stands script walk) where
@@ -129,7 +129,7 @@ module _ (depth : Float) (logs : List Float) (script : List ℕ) (top : length s
   p = reached walk script (reachOf walk script) refl depth logs
 
   next : Walk
-  next = afterOf walk r
+  next = walkAfter walk r
 
   all : length (drop (walk .at) script) ≡ length script - walk .at
   all = length-drop (walk .at) script
@@ -214,7 +214,7 @@ module _ (depth : Float) (logs : List Float) (script : List ℕ) (top : length s
     frame-tells n v e =
         let f = r .turn .run .frame in
         let b = recordOf (v .sample) (entriesOf f depth logs) in
-        let size : length b ≡ sizeOf (length logs) = record-length (v .sample) (entriesOf f depth logs) ∙ ap sizeOf (entries-count f depth logs) in
+        let size : length b ≡ recordSize (length logs) = record-length (v .sample) (entriesOf f depth logs) ∙ ap recordSize (entries-count f depth logs) in
         let framed = ap isFrameless (ap (λ (x : Turn). x .line) (sym t-is) ∙ e) in
         let some : r .turn .taken ≡ 0 → ⊥ = λ z. frame-takes (p .before) (r .n) (drop (walk .at + r .at) script) framed (ap (λ (x : Turn). x .taken) (sym t-is) ∙ z) in
         let left = at-frame some ∙ ap (λ (l : Line). filedBy depth logs f l (leftOf depth logs script next)) e in
@@ -222,9 +222,9 @@ module _ (depth : Float) (logs : List Float) (script : List ℕ) (top : length s
         by-case (allNumbers f depth logs)
         (λ y.
         let is : leftOf depth logs script walk ≡ (b ++ rest .0, rest .1) = left ∙ sym (picked (allNumbers f depth logs) (b ++ rest .0, rest .1) ([], Refused Attenuation) y) in
-        by-case (leb (at + sizeOf (length logs)) (length out))
+        by-case (leb (at + recordSize (length logs)) (length out))
         (λ z.
-        let fit : at + sizeOf (length logs) ≤ length out = leb-true (at + sizeOf (length logs)) (length out) z in
+        let fit : at + recordSize (length logs) ≤ length out = leb-true (at + recordSize (length logs)) (length out) z in
         subst (λ (x : Both). Tells depth logs script walk next out (x .2) at (madeOf n (x .0)))
         (recorded (v .sample) f depth logs scratch out at bins y fit)
         (record {

@@ -18,7 +18,7 @@ use Rattle.mask_records.specs.Written.{writtenOf}
 use Rattle.mask_files.specs.declared.Made.{Made}
 use Rattle.mask_files.specs.declared.Made.the-variants as M
 use Rattle.mask_files.specs.declared.Walk.{Walk}
-use Rattle.mask_files.specs.Walk.{afterOf, steppedOf, madeOf, writtenBy, stepBy, reachOf, stepOf}
+use Rattle.mask_files.specs.Walk.{walkAfter, steppedOf, madeOf, writtenBy, stepBy, reachOf, stepOf}
 
 -- behind the script's end nothing is left of it
 pub past : (s : List ℕ) (at : ℕ) → length s ≤ at → drop (length s) s ≡ drop at s
@@ -28,22 +28,22 @@ past s at h =
     drop-length s ∙ sym (drop-nil k) ∙ ap (drop k) (sym (drop-length s)) ∙ drop-drop k (length s) s ∙ ap (λ (n : ℕ). drop n s) e
 
 module _ (walk : Walk) (script : List ℕ) (depth : Float) (logs scratch : List Float) (out : List ℕ) (at : ℕ) (r : Reached) (eq : r ≡ reachOf walk script) where
-  by-line : (l : Line) → r .turn .line ≡ l → stepBy (afterOf walk r) (r .turn .run .frame) l depth logs scratch out at ≡ stepOf walk script depth logs scratch out at
+  by-line : (l : Line) → r .turn .line ≡ l → stepBy (walkAfter walk r) (r .turn .run .frame) l depth logs scratch out at ≡ stepOf walk script depth logs scratch out at
   unfolding stepOf
   by-line l e =
-      ap (λ (x : Line). stepBy (afterOf walk r) (r .turn .run .frame) x depth logs scratch out at) (sym e)
-      ∙ ap (λ (x : Reached). stepBy (afterOf walk x) (x .turn .run .frame) (x .turn .line) depth logs scratch out at) eq
+      ap (λ (x : Line). stepBy (walkAfter walk r) (r .turn .run .frame) x depth logs scratch out at) (sym e)
+      ∙ ap (λ (x : Reached). stepBy (walkAfter walk x) (x .turn .run .frame) (x .turn .line) depth logs scratch out at) eq
 
-  module _ (next : Walk) (is : next ≡ afterOf walk r) where
+  module _ (next : Walk) (is : next ≡ walkAfter walk r) where
     pub frame-step : (n : ℕ) (v : Values) (w : Written) (x : List Float) (y : List ℕ) (made : Made) → r .turn .line ≡ L.Frame n v → (w, x, y) ≡ writtenOf (v .sample) (r .turn .run .frame) depth logs scratch out at → made ≡ madeOf n w
         → (steppedOf next made, x, y) ≡ stepOf walk script depth logs scratch out at
     frame-step n v w x y made e f m =
         ap (λ (k : Made). (steppedOf next k, x, y)) m
         ∙ ap (λ (k : Walk). (steppedOf k (madeOf n w), x, y)) is
-        ∙ ap (writtenBy (afterOf walk r) n) f
+        ∙ ap (writtenBy (walkAfter walk r) n) f
         ∙ by-line (L.Frame n v) e
 
-    last-by : (l : Line) → isFrameless l ≡ true → (steppedOf (afterOf walk r) (M.Last l), scratch, out) ≡ stepBy (afterOf walk r) (r .turn .run .frame) l depth logs scratch out at
+    last-by : (l : Line) → isFrameless l ≡ true → (steppedOf (walkAfter walk r) (M.Last l), scratch, out) ≡ stepBy (walkAfter walk r) (r .turn .run .frame) l depth logs scratch out at
     last-by L.Nothing h = refl
     last-by (L.Frame n v) h = absurd (no h)
     last-by (L.Refused n k) h = refl

@@ -69,8 +69,8 @@ placedBy bytes (A.Refused r) out at = (Refused r, out)
 placedBy bytes A.Taken out at =
     pick (leb (at + length bytes) (length out)) (Upto (at + length bytes), splice out at bytes) (Refused Room, out)
 
-abbrev pub placedOf : List ℕ × Answer → List ℕ → ℕ → Filed × List ℕ
-placedOf filed out at = placedBy (filed .0) (filed .1) out at
+abbrev pub filedInto : List ℕ × Answer → List ℕ → ℕ → Filed × List ℕ
+filedInto filed out at = placedBy (filed .0) (filed .1) out at
 
 -- the place after the records, and the buffer afterwards; a refusal leaves it as it was
 unfoldable pub masksOf : List ℕ → ℕ → Float → List ℕ → ℕ → Filed × List ℕ
@@ -78,4 +78,4 @@ masksOf script size depth out at =
     pick (ltb size 1) (Refused Size, out)
     (pick (ltb 16384 size) (Refused Size, out)
     (pick (ltb 60000 (length script)) (Refused Script, out)
-    (placedOf (filedOf depth (logsFor script size) (turnsOf script)) out at)))
+    (filedInto (filedOf depth (logsFor script size) (turnsOf script)) out at)))

@@ -4,7 +4,7 @@ use mathlib.Core.List.{List}
 use lib.ListN.{length, drop}
 use lib.Ieee.{Float}
 use Rattle.refusals.specs.declared.Answer.{Answer}
-use Rattle.state.specs.State.{grown}
+use Rattle.floats.specs.Word.{grown}
 use Rattle.script_steps.specs.Steps.{fresh}
 use Rattle.windows.specs.declared.Frame.{Frame}
 use Rattle.listing.specs.declared.lines.Line.{Line}
@@ -26,8 +26,8 @@ unfoldable pub startOf : Walk
 startOf = record { run = fresh; n = 1; at = 0 }
 
 -- behind the field that was reached. Its number counts on as a word of 64 bits; its place is in the script, or where it was if that lies behind the script.
-abbrev pub afterOf : Walk → Reached → Walk
-afterOf walk r = record { run = r .turn .run; n = grown (r .n); at = walk .at + r .at + r .turn .taken }
+abbrev pub walkAfter : Walk → Reached → Walk
+walkAfter walk r = record { run = r .turn .run; n = grown (r .n); at = walk .at + r .at + r .turn .taken }
 
 abbrev pub steppedOf : Walk → Made → Step
 steppedOf walk made = record { walk = walk; made = made }
@@ -56,7 +56,7 @@ reachOf walk script = reachedOf U.Frame (walk .run) (walk .n) (drop (walk .at) s
 unfoldable pub stepOf : Walk → List ℕ → Float → List Float → List Float → List ℕ → ℕ → Step × List Float × List ℕ
 stepOf walk script depth logs scratch out at =
     let r = reachOf walk script in
-    stepBy (afterOf walk r) (r .turn .run .frame) (r .turn .line) depth logs scratch out at
+    stepBy (walkAfter walk r) (r .turn .run .frame) (r .turn .line) depth logs scratch out at
 
 -- how many bytes there are, and how they end
 abbrev pub measuredOf : List ℕ × Answer → Measured

@@ -9,9 +9,9 @@ ghost use Rattle.refusals.specs.declared.Answer.the-variants as Answer;
 ghost use Rattle.mask_gains.specs.Logs.{lawfulLogs};
 ghost use Rattle.listing.specs.Turns.{turnsOf};
 ghost use Rattle.listing.specs.Ended.{badOf};
-ghost use Rattle.mask_records.specs.Placed.{sizeOf};
+ghost use Rattle.mask_records.specs.Placed.{recordSize};
 ghost use Rattle.mask_files.specs.Records.{filedOf};
-ghost use Rattle.mask_files.specs.Masks.{binsOf, logsFor, placedOf, masksOf};
+ghost use Rattle.mask_files.specs.Masks.{binsOf, logsFor, filedInto, masksOf};
 ghost use Rattle.mask_files.specs.Walk.{measuredOf};
 use crate::Filed;
 use crate::Made;
@@ -45,7 +45,7 @@ fn measure(
 ) -> Measured
     requires { ⌜ length (now script) ≤ 60000 ⌝ }
     requires { ⌜ (1 ≤ length (now logs)) × (length (now logs) ≤ 8193) × (lawfulLogs (now logs) ≡ true) × (length (now scratch) ≡ length (now logs)) ⌝ }
-    requires { ⌜ sizeOf (length (now logs)) ≤ length (now lent) ⌝ }
+    requires { ⌜ recordSize (length (now logs)) ≤ length (now lent) ⌝ }
     ensures { λ r. ⌜ r ≡ measuredOf (filedOf «depth_db» (now (logs .entry)) (turnsOf (now (script .entry)))) ⌝ }
 {
     let mut walk = start();
@@ -118,8 +118,8 @@ fn place(
 ) -> Filed
     requires { ⌜ length (now script) ≤ 60000 ⌝ }
     requires { ⌜ (1 ≤ length (now logs)) × (length (now logs) ≤ 8193) × (lawfulLogs (now logs) ≡ true) × (length (now scratch) ≡ length (now logs)) ⌝ }
-    requires { ⌜ sizeOf (length (now logs)) ≤ length (now lent) ⌝ }
-    ensures { λ r. ⌜ (r, now (out .exit)) ≡ placedOf (filedOf «depth_db» (now (logs .entry)) (turnsOf (now (script .entry)))) (now (out .entry)) at ⌝ }
+    requires { ⌜ recordSize (length (now logs)) ≤ length (now lent) ⌝ }
+    ensures { λ r. ⌜ (r, now (out .exit)) ≡ filedInto (filedOf «depth_db» (now (logs .entry)) (turnsOf (now (script .entry)))) (now (out .entry)) at ⌝ }
 {
     let measured = measure(script, depth_db, logs, scratch, lent);
     let bytes = measured.bytes;
@@ -152,7 +152,7 @@ fn file(
 ) -> Filed
     requires { ⌜ (1 ≤ «fft_size») × («fft_size» ≤ 16384) × (length (now script) ≤ 60000) ⌝ }
     requires { ⌜ (length (now logs) ≡ binsOf «fft_size») × (length (now scratch) ≡ binsOf «fft_size») × (length (now lent) ≡ 16402) ⌝ }
-    ensures { λ r. ⌜ (r, now (out .exit)) ≡ placedOf (filedOf «depth_db» (logsFor (now (script .entry)) «fft_size») (turnsOf (now (script .entry)))) (now (out .entry)) at ⌝ }
+    ensures { λ r. ⌜ (r, now (out .exit)) ≡ filedInto (filedOf «depth_db» (logsFor (now (script .entry)) «fft_size») (turnsOf (now (script .entry)))) (now (out .entry)) at ⌝ }
 {
     crate::rate::prepare(script, fft_size, logs);
     place(script, depth_db, logs, scratch, lent, out, at)
@@ -182,7 +182,7 @@ pub fn masks(script: &[u8], fft_size: usize, depth_db: f32, out: &mut [u8], at: 
     if fft_size > 16384 {
         return Filed::Refused(Refusal::Size);
     }
-    if script.len() > 60000 {
+    if script.len() > script::MAX_SCRIPT_BYTES {
         return Filed::Refused(Refusal::Script);
     }
     let n = fft_size / 2 + 1;

@@ -2,7 +2,7 @@
 ghost use mathlib.Core.Path.{_≡_};
 ghost use Prim.Native.Nat.{_+_, _≤_, _<_, _^_};
 ghost use lib.ListN.{length, drop};
-ghost use Rattle.mask_files.specs.Walk.{startOf, afterOf, madeOf, stepOf};
+ghost use Rattle.mask_files.specs.Walk.{startOf, walkAfter, madeOf, stepOf};
 use crate::Made;
 use crate::Step;
 use crate::Walk;
@@ -28,7 +28,7 @@ fn inside(at: usize, script: &[u8]) -> usize
 // The walk behind the field that was reached.
 fn behind(walk: Walk, reached: Reached) -> Walk
     requires { ⌜ walk .at + reached .at + reached .turn .taken < 2 ^ 64 ⌝ }
-    ensures { λ r. ⌜ r ≡ afterOf walk reached ⌝ }
+    ensures { λ r. ⌜ r ≡ walkAfter walk reached ⌝ }
 {
     let turn = reached.turn;
     let run = turn.run;

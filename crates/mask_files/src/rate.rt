@@ -1,6 +1,6 @@
 // The bins of a script's masks: their logarithms go by the rate that its first field gives.
 ghost use mathlib.Core.Path.{_≡_};
-ghost use Rattle.mask_gains.specs.Bins.{preparedOf};
+ghost use Rattle.mask_gains.specs.Bins.{binTableOf};
 ghost use Rattle.mask_files.specs.Masks.{rateIn, rateOf};
 use refusals::Answer;
 use script::Field;
@@ -11,7 +11,7 @@ fn rate_in(field: Field) -> f32
 {
     match field {
         Field::Rate(rate) => {
-            if mask_gains::lawful_rate(rate) {
+            if settings::lawful_rate(rate) {
                 rate
             } else {
                 48000.0
@@ -46,7 +46,7 @@ fn rate(script: &[u8]) -> f32
 
 // The bins' logarithms, as a walk over the script takes them: one more place than half the size.
 pub fn prepare(script: &[u8], fft_size: usize, logs: &mut [f32]) -> Answer
-    ensures { λ r. ⌜ (r, now (logs .exit)) ≡ preparedOf (rateOf (now (script .entry))) «fft_size» (now (logs .entry)) ⌝ }
+    ensures { λ r. ⌜ (r, now (logs .exit)) ≡ binTableOf (rateOf (now (script .entry))) «fft_size» (now (logs .entry)) ⌝ }
 {
     mask_gains::bin_table(rate(script), fft_size, logs)
 }

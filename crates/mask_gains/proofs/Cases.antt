@@ -7,12 +7,9 @@ use lib.ListN.{length}
 use lib.Ieee.{Float, le, eq}
 use Rattle.floats.proofs.Sat.{no}
 use Rattle.sequences.specs.Pick.{pick, took}
-use Rattle.sequences.specs.Table.{table}
-use Rattle.floats.specs.Names.{nil}
+use Rattle.floats.specs.Names.{zero32}
 use Rattle.windows.specs.declared.Frame.{Frame}
 use Rattle.refusals.specs.declared.Answer.{Answer}
-use Rattle.refusals.specs.declared.Answer.the-variants.{Taken, Refused}
-use Rattle.refusals.specs.declared.Refusal.the-variants.{Logs}
 use Rattle.mask_gains.specs.Logs.{lawfulLogs}
 use Rattle.mask_gains.specs.Gains.{levelOf, quietOf, onesOf, shapedOf, gainsOf}
 
@@ -46,7 +43,7 @@ module _ (f : Frame) (depth : Float) (logs scratch output : List Float) (m : len
   quiet-gains r ys q e =
       took _ _ _ _ (eq-eqb _ _ m)
       (took _ _ _ _ (eq-eqb _ _ n)
-      (ap (beside scratch) e ∙ beside-pick scratch (lawfulLogs logs) _ _ ∙ quiet-pick _ _ _ (lawfulLogs logs) (le depth nil) (eq (f .activity) nil) q))
+      (ap (beside scratch) e ∙ beside-pick scratch (lawfulLogs logs) _ _ ∙ quiet-pick _ _ _ (lawfulLogs logs) (le depth zero32) (eq (f .activity) zero32) q))
 
   pub loud-gains : (level : Float) (r : Answer × List Float × List Float) → quietOf depth (f .activity) ≡ false → level ≡ levelOf depth (f .activity) → r ≡ shapedOf (f .windows) level logs scratch output → r ≡ gainsOf f depth logs scratch output
   unfolding gainsOf quietOf shapedOf
@@ -55,4 +52,4 @@ module _ (f : Frame) (depth : Float) (logs scratch output : List Float) (m : len
       (took _ _ _ _ (eq-eqb _ _ n)
       (e
       ∙ ap (λ (l : Float). shapedOf (f .windows) l logs scratch output) h
-      ∙ loud-pick _ _ _ (lawfulLogs logs) (le depth nil) (eq (f .activity) nil) q))
+      ∙ loud-pick _ _ _ (lawfulLogs logs) (le depth zero32) (eq (f .activity) zero32) q))

@@ -12,7 +12,7 @@ use lib.Ieee.Fits.{up-pos, and-l}
 use Rattle.floats_laws.proofs.Rising.{nought}
 use Rattle.floats_laws.proofs.Units.{one as i, zero-fits}
 use Rattle.floats.proofs.Values.{same-fin}
-use Rattle.floats.specs.Names.{nil, one}
+use Rattle.floats.specs.Names.{zero32, one}
 
 at-zero : (s : Bool) → sub binary32 i (fin s 0 (pos 0)) ≡ i
 unfolding sub add neg Ieee.sum round Ieee.units Ieee.odd Ieee.size Ieee.span Ieee.climb
@@ -32,6 +32,6 @@ flat (fin s zero e) p h = ap (sub binary32 i) (same-fin binary32 s 0 e 0 (pos 0)
 flat (fin s (suc m) e) p h =
     absurd (let w : 0 < suc m * up e = mul-pos (zero-lt-suc m) (up-pos e) in omega (arith, some s m e (subst T (sym h) tt), mul-one (suc m * up e), zero-mul (down e)))
 
-pub closed-bin : (o : Float) → T (fits binary32 o) → eq o nil ≡ true → sub binary32 one nil ≡ sub binary32 one o
+pub closed-bin : (o : Float) → T (fits binary32 o) → eq o zero32 ≡ true → sub binary32 one zero32 ≡ sub binary32 one o
 unfolding ofBits
 closed-bin o p h = at-zero false ∙ sym (flat o p h)

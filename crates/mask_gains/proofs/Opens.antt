@@ -9,22 +9,22 @@ use lib.Ieee.{Float, nan}
 use Rattle.sequences.specs.Table.{table, length-table, table-at}
 use Rattle.sequences.specs.Walk.{Walked, walked-none, walked-more, walked-all}
 use Rattle.windows.specs.declared.Window.{Window}
-use Rattle.floats.specs.Names.{nil}
+use Rattle.floats.specs.Names.{zero32}
 use Rattle.mask_gains.specs.Opened.{raising, openAt}
 use Rattle.mask_gains.specs.Walk.{Raised}
 
 -- every bin is as the first j windows leave it
 pub record Opened (ws : List Window) (logs : List Float) (j : ℕ) (ys : List Float) : Type 0 where
   pub same : length ys ≡ length logs
-  pub at : (i : ℕ) → i < length logs → Walked (raising i (getD logs i nan)) 192 ws nil j (getD ys i nan)
+  pub at : (i : ℕ) → i < length logs → Walked (raising i (getD logs i nan)) 192 ws zero32 j (getD ys i nan)
 
 module _ (ws : List Window) (logs : List Float) where
-  pub opened-none : (xs : List Float) → length ws ≡ 192 → xs ≡ table (length logs) (λ i. nil) → Opened ws logs 0 xs
+  pub opened-none : (xs : List Float) → length ws ≡ 192 → xs ≡ table (length logs) (λ i. zero32) → Opened ws logs 0 xs
   opened-none xs l e =
       rw e
       (record {
-        same = length-table (length logs) (λ i. nil);
-        at = λ i h. rw (table-at (length logs) (λ i. nil) i nan h) (walked-none (raising i (getD logs i nan)) 192 ws nil l);
+        same = length-table (length logs) (λ i. zero32);
+        at = λ i h. rw (table-at (length logs) (λ i. zero32) i nan h) (walked-none (raising i (getD logs i nan)) 192 ws zero32 l);
       })
 
   pub opened-more : (j : ℕ) (d : Window) (ys zs : List Float) → Opened ws logs j ys → j < 192 → Raised (getD ws j d) logs ys zs → Opened ws logs (j + 1) zs

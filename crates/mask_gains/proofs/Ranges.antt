@@ -11,7 +11,7 @@ use lib.ListN.{length, getD, set, length-set}
 use lib.Seq.{getD-set-same, getD-set-other}
 use lib.Ieee.{Float, nan, lt, le}
 use Rattle.sequences.specs.Pick.{by-case}
-use Rattle.floats.specs.Names.{add32, sub32, nil}
+use Rattle.floats.specs.Names.{add32, sub32, zero32}
 use Rattle.floats.specs.Choose.{max}
 use Rattle.windows.specs.declared.Window.{Window}
 use Rattle.windows.specs.Opening.{opennessOf}
@@ -55,7 +55,7 @@ and-off false y e = refl
 module _ (w : Window) (log o : Float) (i : ℕ) where
   untouched : touches w log ≡ false → raisedOf i log w o ≡ o
   unfolding raisedOf
-  untouched e = off (ltb 0 i) (not (le (w .amplitude) nil)) (touches w log) (max o (opennessOf w log)) o e
+  untouched e = off (ltb 0 i) (not (le (w .amplitude) zero32)) (touches w log) (max o (opennessOf w log)) o e
 
   by-under : lt log (sub32 (w .«center_log2_hz») (w .«radius_octaves»)) ≡ true → raisedOf i log w o ≡ o
   unfolding touches
@@ -65,11 +65,11 @@ module _ (w : Window) (log o : Float) (i : ℕ) where
   unfolding touches
   by-over e = untouched (and-off (not (lt log (sub32 (w .«center_log2_hz») (w .«radius_octaves»)))) (le log (add32 (w .«center_log2_hz») (w .«radius_octaves»))) e)
 
-  by-amplitude : le (w .amplitude) nil ≡ true → raisedOf i log w o ≡ o
+  by-amplitude : le (w .amplitude) zero32 ≡ true → raisedOf i log w o ≡ o
   unfolding raisedOf
   by-amplitude e = ap (λ (b : Bool). cond (ltb 0 i && (not b && touches w log)) (max o (opennessOf w log)) o) e ∙ off (ltb 0 i) true false (max o (opennessOf w log)) o refl
 
-  by-range : 1 ≤ i → le (w .amplitude) nil ≡ false → lt log (sub32 (w .«center_log2_hz») (w .«radius_octaves»)) ≡ false → le log (add32 (w .«center_log2_hz») (w .«radius_octaves»)) ≡ true → max o (opennessOf w log) ≡ raisedOf i log w o
+  by-range : 1 ≤ i → le (w .amplitude) zero32 ≡ false → lt log (sub32 (w .«center_log2_hz») (w .«radius_octaves»)) ≡ false → le log (add32 (w .«center_log2_hz») (w .«radius_octaves»)) ≡ true → max o (opennessOf w log) ≡ raisedOf i log w o
   unfolding raisedOf touches
   by-range h p q s = simp (lt-ltb 0 i h, p, q, s)
 
@@ -79,7 +79,7 @@ bin-zero w log o = refl
 
 -- ---- all bins
 module _ (w : Window) (logs xs : List Float) (n : length logs ≡ length xs) where
-  pub raised-off : le (w .amplitude) nil ≡ true → Raised w logs xs xs
+  pub raised-off : le (w .amplitude) zero32 ≡ true → Raised w logs xs xs
   raised-off e = record { same = refl; at = λ i h. sym (by-amplitude w (getD logs i nan) (getD xs i nan) i e) }
 
   pub raised-short : length logs < 2 → Raised w logs xs xs
@@ -104,7 +104,7 @@ module _ (w : Window) (logs xs : List Float) (n : length logs ≡ length xs) whe
           at = λ i h. by-case (ltb i start) (λ p. sym (lower i (ltb-true i start p))) (λ p. sym (upper i h (omega (arith, ltb-false i start p))));
         }
 
-    pub raised-range : (ys : List Float) → le (w .amplitude) nil ≡ false → Part w logs xs start end ys → Raised w logs xs ys
+    pub raised-range : (ys : List Float) → le (w .amplitude) zero32 ≡ false → Part w logs xs start end ys → Raised w logs xs ys
     raised-range ys na m = record { same = m .same; at = λ i h. go i h (ltb i start) (ltb i end) refl refl }
       where
         go : (i : ℕ) → i < length xs → (b d : Bool) → ltb i start ≡ b → ltb i end ≡ d → getD ys i nan ≡ raisedOf i (getD logs i nan) w (getD xs i nan)

@@ -1,8 +1,7 @@
 -- The gains from the openness of the bins, by what `open_bins` answered.
-use mathlib.Core.Path.{_≡_, refl, sym, ap, _∙_}
+use mathlib.Core.Path.{_≡_, sym, ap, _∙_}
 use mathlib.Core.Bool.{Bool, true, false}
 use mathlib.Core.List.{List}
-use Prim.Native.Nat.{ℕ}
 use borrow.Author.Tests.{eq-eqb}
 use lib.ListN.{length, getD}
 use lib.Ieee.{Float, nan}

@@ -8,7 +8,7 @@ use lib.Ieee.{Float, nan, lt, le}
 use Rattle.sequences.specs.Pick.{pick}
 use Rattle.sequences.specs.Table.{table}
 use Rattle.sequences.specs.Walk.{walk}
-use Rattle.floats.specs.Names.{add32, sub32, nil}
+use Rattle.floats.specs.Names.{add32, sub32, zero32}
 use Rattle.floats.specs.Choose.{max}
 use Rattle.refusals.specs.declared.Answer.{Answer}
 use Rattle.refusals.specs.declared.Answer.the-variants.{Taken, Refused}
@@ -25,14 +25,14 @@ touches w log =
 
 -- if w.amplitude <= 0.0 { continue; } .. *o = o.max(w.openness(*log));
 unfoldable pub raisedOf : ℕ → Float → Window → Float → Float
-raisedOf bin log w o = cond (ltb 0 bin && (not (le (w .amplitude) nil) && touches w log)) (max o (opennessOf w log)) o
+raisedOf bin log w o = cond (ltb 0 bin && (not (le (w .amplitude) zero32) && touches w log)) (max o (opennessOf w log)) o
 
 -- for w in &frame.windows, at one bin
 abbrev pub raising : ℕ → Float → ℕ → Window → Float → Float
 raising bin log j w o = raisedOf bin log w o
 
 unfoldable pub openAt : List Window → List Float → ℕ → Float
-openAt ws logs bin = walk (raising bin (getD logs bin nan)) 0 ws nil
+openAt ws logs bin = walk (raising bin (getD logs bin nan)) 0 ws zero32
 
 -- the answer, and then scratch afterwards
 unfoldable pub openedOf : List Window → List Float → List Float → Answer × List Float

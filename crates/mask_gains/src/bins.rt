@@ -1,22 +1,12 @@
 // The table of the bins' logarithms.
 ghost use mathlib.Core.Path.{_≡_};
 ghost use lib.ListN.{length};
-ghost use Rattle.settings.specs.Settings.{lawfulRate};
-ghost use Rattle.mask_gains.specs.Bins.{logAt, logsOf, preparedOf};
+ghost use Rattle.mask_gains.specs.Bins.{logAt, logsOf, binTableOf};
 use refusals::Answer;
 use refusals::Refusal;
 
 // Added by 01: a larger size is refused.
 pub const MAX_FFT_SIZE: usize = 16384;
-
-pub fn lawful_rate(rate: f32) -> bool
-    ensures { λ r. ⌜ r ≡ lawfulRate rate ⌝ }
-{
-    crate::logs::both(
-        floats::is_finite32(rate),
-        crate::logs::both(8000.0 <= rate, rate <= 384000.0),
-    )
-}
 
 // Bin 0 has no logarithm: its place holds 0.0.
 fn log_at(bin_hz: f32, bin: usize) -> f32
@@ -38,9 +28,9 @@ fn fill(bin_hz: f32, table: &mut [f32])
 
 // The table that the Rust's `MaskWorkspace::prepare` fills, in lent places; 01 adds the refusals.
 pub fn bin_table(sample_rate: f32, fft_size: usize, table: &mut [f32]) -> Answer
-    ensures { λ r. ⌜ (r, now (table .exit)) ≡ preparedOf «sample_rate» «fft_size» (now (table .entry)) ⌝ }
+    ensures { λ r. ⌜ (r, now (table .exit)) ≡ binTableOf «sample_rate» «fft_size» (now (table .entry)) ⌝ }
 {
-    if lawful_rate(sample_rate) {
+    if settings::lawful_rate(sample_rate) {
         if fft_size < 1 {
             return Answer::Refused(Refusal::Size);
         }

@@ -3,7 +3,7 @@ ghost use mathlib.Core.Path.{_≡_};
 ghost use lib.ListN.{length, getD};
 ghost use lib.Ieee.{nan};
 ghost use Rattle.sequences.specs.Table.{table};
-ghost use Rattle.floats.specs.Names.{nil, one};
+ghost use Rattle.floats.specs.Names.{zero32, one};
 ghost use Rattle.mask_gains.specs.Gains.{levelOf, gainOf, quietOf, onesOf, shapedOf, gainsOf};
 use crate::logs;
 use crate::touch;
@@ -27,7 +27,7 @@ fn gain_at(level: f32, openness: f32) -> f32
 
 // Bins that are shut share one power.
 fn gain(level: f32, shut: f32, openness: f32) -> f32
-    requires { ⌜ shut ≡ gainOf level nil ⌝ }
+    requires { ⌜ shut ≡ gainOf level zero32 ⌝ }
     ensures { λ r. ⌜ r ≡ gainOf level openness ⌝ }
 {
     if openness == 0.0 {
@@ -37,7 +37,7 @@ fn gain(level: f32, shut: f32, openness: f32) -> f32
 }
 
 fn finish(level: f32, shut: f32, scratch: &[f32], output: &mut [f32])
-    requires { ⌜ (length (now scratch) ≡ length (now output)) × (shut ≡ gainOf level nil) ⌝ }
+    requires { ⌜ (length (now scratch) ≡ length (now output)) × (shut ≡ gainOf level zero32) ⌝ }
     ensures { λ _. ⌜ now (output .exit) ≡ table (length (now (scratch .entry))) (λ i. gainOf level (getD (now (scratch .entry)) i nan)) ⌝ }
 {
     for i in 0..output.len() {

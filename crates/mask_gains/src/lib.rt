@@ -6,7 +6,6 @@ mod search;
 mod touch;
 
 pub use bins::bin_table;
-pub use bins::lawful_rate;
 pub use gain::gains;
 pub use gain::level;
 pub use gain::quiet;

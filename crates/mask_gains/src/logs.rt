@@ -5,17 +5,10 @@ ghost use lib.Ieee.{lt};
 ghost use lib.Ieee.Scale.{finite};
 ghost use Rattle.mask_gains.specs.Logs.{lawfulLogs};
 
-// a && b with no branch.
-pub fn both(a: bool, b: bool) -> bool
-    ensures { λ r. ⌜ r ≡ (a && b) ⌝ }
-{
-    a && b
-}
-
 fn follows(before: f32, log: f32) -> bool
     ensures { λ r. ⌜ r ≡ (finite log && not (lt log before)) ⌝ }
 {
-    both(floats::is_finite32(log), !(log < before))
+    floats::both(floats::is_finite32(log), !(log < before))
 }
 
 // Bin 0 is not looked at, and bin 1 has none before it.
@@ -27,7 +20,7 @@ pub fn lawful(logs: &[f32]) -> bool
     }
     let mut ok = floats::is_finite32(logs[1]);
     for i in 2..logs.len() {
-        ok = both(ok, follows(logs[i - 1], logs[i]));
+        ok = floats::both(ok, follows(logs[i - 1], logs[i]));
     }
     ok
 }

@@ -3,7 +3,7 @@ ghost use mathlib.Core.Path.{_≡_};
 ghost use Prim.Native.Nat.{_≤_};
 ghost use lib.ListN.{length};
 ghost use Rattle.sequences.specs.Table.{table};
-ghost use Rattle.floats.specs.Names.{nil};
+ghost use Rattle.floats.specs.Names.{zero32};
 ghost use Rattle.mask_gains.specs.Opened.{openAt, openedOf};
 ghost use Rattle.mask_gains.specs.Walk.{Numbers, Part, Raised, Sorted};
 use crate::logs;
@@ -42,7 +42,7 @@ fn touch(w: Window, logs: &[f32], scratch: &mut [f32])
 }
 
 fn walk(windows: [Window; 192], logs: &[f32], scratch: &mut [f32])
-    requires { ⌜ (now scratch ≡ table (length (now logs)) (λ i. nil)) × Sorted (now logs) ⌝ }
+    requires { ⌜ (now scratch ≡ table (length (now logs)) (λ i. zero32)) × Sorted (now logs) ⌝ }
     ensures { λ _. ⌜ now (scratch .exit) ≡ table (length (now (logs .entry))) (openAt windows (now (logs .entry))) ⌝ }
 {
     for j in 0..192 {
@@ -53,7 +53,7 @@ fn walk(windows: [Window; 192], logs: &[f32], scratch: &mut [f32])
 
 // Every bin shut.
 fn clear(scratch: &mut [f32])
-    ensures { λ _. ⌜ now (scratch .exit) ≡ table (length (now (scratch .entry))) (λ i. nil) ⌝ }
+    ensures { λ _. ⌜ now (scratch .exit) ≡ table (length (now (scratch .entry))) (λ i. zero32) ⌝ }
 {
     for i in 0..scratch.len() {
         scratch[i] = 0.0;

@@ -9,21 +9,21 @@ use Rattle.sequences.specs.Every.{Every}
 use Rattle.sequences.specs.Pick.{picked, took}
 use Rattle.mask_records.specs.declared.Read.the-variants.{End}
 use Rattle.mask_records.specs.Bytes.{recordOf, fileOf}
-use Rattle.mask_records.specs.Placed.{sizeOf}
+use Rattle.mask_records.specs.Placed.{recordSize}
 use Rattle.mask_records.specs.Found.{readOf}
 use Rattle.mask_records.proofs.Pairs.{record-length}
-use Rattle.mask_laws.specs.Files.{Record, Whole, ReadsAs}
+use Rattle.mask_laws.specs.Files.{Record, WholeRecord, ReadsAs}
 use Rattle.mask_laws.proofs.ReadBack.{read-back}
 
 no-bytes : (lent : List ℕ) → readOf [] lent ≡ (End, lent)
 unfolding readOf
 no-bytes lent = sym (took _ _ _ _ refl refl)
 
-behind-it : (r : Record) (rs : List Record) → drop (sizeOf (length (r .1))) (fileOf (r ∷ rs)) ≡ fileOf rs
+behind-it : (r : Record) (rs : List Record) → drop (recordSize (length (r .1))) (fileOf (r ∷ rs)) ≡ fileOf rs
 unfolding fileOf
-behind-it r rs = drop-at (recordOf (r .0) (r .1)) (fileOf rs) (sizeOf (length (r .1))) (record-length (r .0) (r .1))
+behind-it r rs = drop-at (recordOf (r .0) (r .1)) (fileOf rs) (recordSize (length (r .1))) (record-length (r .0) (r .1))
 
-pub file-back : (rs : List Record) → Every Whole rs → ReadsAs (fileOf rs) rs
+pub file-back : (rs : List Record) → Every WholeRecord rs → ReadsAs (fileOf rs) rs
 unfolding fileOf
 file-back [] w = no-bytes
 file-back (r ∷ rs) w = (

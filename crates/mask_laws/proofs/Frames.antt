@@ -11,7 +11,7 @@ use lib.Seq.{drop-at, length-take-le}
 use lib.Ieee.{Float}
 use Rattle.sequences.specs.All.{all}
 use Rattle.sequences.specs.Pick.{pick, picked, went-left, went-right}
-use Rattle.sequences.specs.Table.{table, table-at, length-table}
+use Rattle.sequences.specs.Table.{table-at, length-table}
 use Rattle.text.specs.Put.{splice}
 use Rattle.mask_records.specs.Decibels.{entries, isEntry}
 use Rattle.mask_records.specs.Tenths.{tenthsOf}
@@ -27,7 +27,7 @@ use Rattle.mask_records.specs.declared.Written.the-variants.{Upto, Refused}
 use Rattle.mask_records.specs.declared.Read.the-variants as R
 use Rattle.mask_records.specs.Bytes.{recordOf}
 use Rattle.mask_records.specs.Entries.{attenuationAt, isNumber, entryFor}
-use Rattle.mask_records.specs.Placed.{sizeOf}
+use Rattle.mask_records.specs.Placed.{recordSize}
 use Rattle.mask_records.specs.Written.{entriesOf, scratchOf, writtenOf}
 use Rattle.mask_records.specs.Found.{readOf}
 use Rattle.mask_records.proofs.Answers.{apart}
@@ -69,8 +69,8 @@ Placed p x = x .0 ≡ Upto p
 pub record Accepted (sample : ℕ) (f : Frame) (depth : Float) (logs scratch : List Float) (out : List ℕ) (at p : ℕ) : Type 0 where
   pub some : 1 ≤ length logs
   pub few : length logs ≤ 8193
-  pub room : at + sizeOf (length logs) ≤ length out
-  pub place : p ≡ at + sizeOf (length logs)
+  pub room : at + recordSize (length logs) ≤ length out
+  pub place : p ≡ at + recordSize (length logs)
   pub scratch-is : writtenOf sample f depth logs scratch out at .1 ≡ scratchOf f depth logs scratch
   pub out-is : writtenOf sample f depth logs scratch out at .2 ≡ splice out at (recordOf sample (entriesOf f depth logs))
 
@@ -82,8 +82,8 @@ module _ (sample : ℕ) (f : Frame) (depth : Float) (logs scratch : List Float) 
   unfolding writtenOf
   accepted e =
       let n = length logs in
-      let done : Both = (Upto (at + sizeOf n), scratchOf f depth logs scratch, splice out at (recordOf sample (entriesOf f depth logs))) in
-      let x6 : Both = pick (leb (at + sizeOf n) (length out)) done (Refused Room, scratch, out) in
+      let done : Both = (Upto (at + recordSize n), scratchOf f depth logs scratch, splice out at (recordOf sample (entriesOf f depth logs))) in
+      let x6 : Both = pick (leb (at + recordSize n) (length out)) done (Refused Room, scratch, out) in
       let x5 : Both = pick (all (λ i. isNumber (attenuationAt f depth logs i)) n) x6 (Refused Attenuation, scratch, out) in
       let x4 : Both = pick (ltb 8193 n) (Refused Record, scratch, out) x5 in
       let x3 : Both = pick (ltb n 1) (Refused Record, scratch, out) x4 in
@@ -98,13 +98,13 @@ module _ (sample : ℕ) (f : Frame) (depth : Float) (logs scratch : List Float) 
       let e5 : x5 .0 ≡ Upto p = ap (λ (x : Both). x .0) (sym (a4 .1)) ∙ e4 in
       let a5 = went-left (Placed p) x6 (Refused Attenuation, scratch, out) (all (λ i. isNumber (attenuationAt f depth logs i)) n) (refused-not Attenuation p) e5 in
       let e6 : x6 .0 ≡ Upto p = ap (λ (x : Both). x .0) (sym (a5 .1)) ∙ e5 in
-      let a6 = went-left (Placed p) done (Refused Room, scratch, out) (leb (at + sizeOf n) (length out)) (refused-not Room p) e6 in
+      let a6 = went-left (Placed p) done (Refused Room, scratch, out) (leb (at + recordSize n) (length out)) (refused-not Room p) e6 in
       let is : writtenOf sample f depth logs scratch out at ≡ done = a1 .1 ∙ a2 .1 ∙ a3 .1 ∙ a4 .1 ∙ a5 .1 ∙ a6 .1 in
       record {
         some = ltb-false n 1 (a3 .0);
         few = ltb-false 8193 n (a4 .0);
         room = leb-true _ _ (a6 .0);
-        place = placed-at p (at + sizeOf n) (ap (λ (x : Both). x .0) (sym is) ∙ e);
+        place = placed-at p (at + recordSize n) (ap (λ (x : Both). x .0) (sym is) ∙ e);
         scratch-is = ap (λ (x : Both). x .1) is;
         out-is = ap (λ (x : Both). x .2) is;
       }
@@ -117,7 +117,7 @@ module _ (sample : ℕ) (f : Frame) (depth : Float) (logs scratch : List Float) 
 
   -- written and read back: the same sample, count and entries, for every frame; 13 where the lent slice has fewer places
   pub written-back : writtenOf sample f depth logs scratch out at .0 ≡ Upto p → (lent : List ℕ) → length logs ≤ length lent
-      → readOf (drop at (writtenOf sample f depth logs scratch out at .2)) lent ≡ (R.Found sample (length logs) (sizeOf (length logs)), entriesOf f depth logs ++ drop (length logs) lent)
+      → readOf (drop at (writtenOf sample f depth logs scratch out at .2)) lent ≡ (R.Found sample (length logs) (recordSize (length logs)), entriesOf f depth logs ++ drop (length logs) lent)
   written-back e lent l =
       let a = accepted e in
       let es = entriesOf f depth logs in

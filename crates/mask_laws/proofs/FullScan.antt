@@ -24,7 +24,7 @@ use Rattle.floats_laws.proofs.Rules.{lt→le, le-left, le-right, le-trans, add-
 use Rattle.floats.proofs.Sign.{abs-number}
 use Rattle.floats_laws.proofs.Units.{one as i, zero-fits, one-fits, unit}
 use Rattle.windows.specs.declared.Window.{Window}
-use Rattle.floats.specs.Names.{nil, one}
+use Rattle.floats.specs.Names.{zero32, one}
 use Rattle.windows.specs.Opening.{taperOf, insideOf, opennessOf}
 use Rattle.windows.specs.Attenuation.{opening, openedBy}
 use Rattle.windows_laws.proofs.Tapered.{taper-finite}
@@ -57,8 +57,8 @@ either-way false x o e = sym e
 openness-fits : (w : Window) (log : Float) → T (fits binary32 (opennessOf w log))
 unfolding opennessOf ofBits
 openness-fits w log =
-    cond-fits binary32 (le (w .«radius_octaves») nought) nought (mul binary32 (w .amplitude) (taperOf (clamp (insideOf w log) nil one))) (zero-fits binary32 false)
-    (mul-fits binary32 (w .amplitude) (taperOf (clamp (insideOf w log) nil one)))
+    cond-fits binary32 (le (w .«radius_octaves») nought) nought (mul binary32 (w .amplitude) (taperOf (clamp (insideOf w log) zero32 one))) (zero-fits binary32 false)
+    (mul-fits binary32 (w .amplitude) (taperOf (clamp (insideOf w log) zero32 one)))
 
 -- ---- one window at one bin
 module _ (w : Window) (log : Float) (F : Finite w) (fl : T (fits binary32 log)) (ul : T (finite log)) where
@@ -74,11 +74,11 @@ module _ (w : Window) (log : Float) (F : Finite w) (fl : T (fits binary32 log)) 
   abbrev v : Float
   v = opennessOf w log
 
-  no-radius : le r nil ≡ true → v ≡ nought
+  no-radius : le r zero32 ≡ true → v ≡ nought
   unfolding opennessOf ofBits
-  no-radius e = ap (λ (b : Bool). cond b nought (mul binary32 a (taperOf (clamp (insideOf w log) nil one)))) e
+  no-radius e = ap (λ (b : Bool). cond b nought (mul binary32 a (taperOf (clamp (insideOf w log) zero32 one)))) e
 
-  above : (x : Float) → T (fits binary32 x) → T (finite x) → le x nil ≡ false → T (lt nought x)
+  above : (x : Float) → T (fits binary32 x) → T (finite x) → le x zero32 ≡ false → T (lt nought x)
   unfolding ofBits
   above x p u e = passes _ (not-le→lt binary32 x nought p (zero-fits binary32 false) (finite-number binary32 x u) (finite-number binary32 nought tt) e)
 
@@ -92,40 +92,40 @@ module _ (w : Window) (log : Float) (F : Finite w) (fl : T (fits binary32 log)) 
   unfolding insideOf
   inside-fits = sub-fits binary32 one (div binary32 (abs (sub binary32 log c)) r)
 
-  tapered : T (lt nought r) → T (finite (taperOf (clamp (insideOf w log) nil one))) × T (le nought (taperOf (clamp (insideOf w log) nil one)))
+  tapered : T (lt nought r) → T (finite (taperOf (clamp (insideOf w log) zero32 one))) × T (le nought (taperOf (clamp (insideOf w log) zero32 one)))
   unfolding ofBits
   tapered k =
       let x = insideOf w log in
       taper-finite (clamp x nought i) (clamp-fits binary32 x nought i inside-fits (zero-fits binary32 false) (one-fits binary32))
       (le-left (clamp x nought i) i (clamp-most binary32 x nought i inside-fits (zero-fits binary32 false) (one-fits binary32) (inside-number k) unit))
 
-  no-amplitude : le r nil ≡ false → T (le a nought) → T (le v nought)
+  no-amplitude : le r zero32 ≡ false → T (le a nought) → T (le v nought)
   unfolding opennessOf
   no-amplitude e h =
       let t = tapered (above r (F .radius-fits) (F .radius) e) in
-      rw e (product-to-zero binary32 a (taperOf (clamp (insideOf w log) nil one)) (F .amplitude) (t .0) h (t .1))
+      rw e (product-to-zero binary32 a (taperOf (clamp (insideOf w log) zero32 one)) (F .amplitude) (t .0) h (t .1))
 
   module _ (o : Float) (p : T (fits binary32 o)) (h : T (le nought o)) (bin : ℕ) (l : 1 ≤ bin) where
     level : T (le v nought) → raisedOf bin log w o ≡ max o v
     unfolding raisedOf
-    level g = either-way (ltb 0 bin && (not (le a nil) && touches w log)) (max o v) o (stays o v p (openness-fits w log) h g)
+    level g = either-way (ltb 0 bin && (not (le a zero32) && touches w log)) (max o v) o (stays o v p (openness-fits w log) h g)
 
     level-at : v ≡ nought → raisedOf bin log w o ≡ max o v
     level-at e = level (subst (λ (x : Float). T (le x nought)) (sym e) z-below-z)
 
-    touched : le a nil ≡ false → touches w log ≡ true → raisedOf bin log w o ≡ max o v
+    touched : le a zero32 ≡ false → touches w log ≡ true → raisedOf bin log w o ≡ max o v
     unfolding raisedOf
     touched e g = rw (lt-ltb 0 bin l, e, g) refl
 
-    below : le a nil ≡ true → T (le a nought)
+    below : le a zero32 ≡ true → T (le a nought)
     unfolding ofBits
     below e = passes _ e
 
     agrees : raisedOf bin log w o ≡ max o v
     agrees =
-        by-case (le r nil) (λ e. level-at (no-radius e))
+        by-case (le r zero32) (λ e. level-at (no-radius e))
         (λ e.
-        by-case (le a nil) (λ d. level (no-amplitude e (below d)))
+        by-case (le a zero32) (λ d. level (no-amplitude e (below d)))
         (λ d.
         by-case (touches w log) (λ g. touched d g)
         (λ g. level-at (shut w log (F .radius-fits) fl (F .centre) (F .radius) ul (above r (F .radius-fits) (F .radius) e) (F .amplitude) (above a (F .amplitude-fits) (F .amplitude) d) e g))))

@@ -23,7 +23,7 @@ use Rattle.sequences.specs.Table.{length-table, table-at}
 use Rattle.elementary.specs.Log2.{log2Of}
 use Rattle.elementary_laws.proofs.LogExact.{log2-fits}
 use Rattle.elementary_laws.proofs.LogRises.{log2-within, log2-rises}
-use Rattle.floats.specs.Names.{mul32, div32, nil, asFloat}
+use Rattle.floats.specs.Names.{mul32, div32, zero32, asFloat}
 use Rattle.floats_laws.proofs.Bounds.{div-mag, of-upto}
 use Rattle.floats_laws.proofs.Casting.{whole-rises}
 use Rattle.floats_laws.proofs.Ends.{not-above}
@@ -171,7 +171,7 @@ module _ (rate : Float) (fr : T (fits binary32 rate)) (ok : lawfulRate rate ≡ 
   module _ (n : ℕ) (few : n ≤ 2 ^ 14 + 1) where
     log-is : (bin : ℕ) → 1 ≤ bin → bin < n → getD (logsOf hz n) bin nan ≡ log2Of (at bin)
     unfolding logsOf logAt
-    log-is bin h l = table-at n (logAt hz) bin nan l ∙ sym (passed (eqb bin 0) nil (log2Of (at bin)) (ne-eqb bin 0 (λ e. omega arith)))
+    log-is bin h l = table-at n (logAt hz) bin nan l ∙ sym (passed (eqb bin 0) zero32 (log2Of (at bin)) (ne-eqb bin 0 (λ e. omega arith)))
 
     each : (bin : ℕ) → bin < n → T (lawfulAt (logsOf hz n) bin)
     unfolding lawfulAt

@@ -12,12 +12,12 @@ use lib.Seq.{getD-append-add}
 use Rattle.sequences.specs.All.{all-true}
 use Rattle.sequences.specs.Pick.{pick, picked, passed}
 use Rattle.sequences.specs.Table.{table, table-same, table-own}
-use Rattle.script.specs.Bytes.{be16, be32, be64}
+use Rattle.big_endian.specs.Numbers.{be16, be32, be64}
 use Rattle.mask_records.specs.Decibels.{isEntry}
 use Rattle.refusals.specs.declared.Refusal.the-variants.{Room}
 use Rattle.mask_records.specs.declared.Read.the-variants.{Found, Refused}
 use Rattle.mask_records.specs.Bytes.{headOf, pairsOf, recordOf}
-use Rattle.mask_records.specs.Placed.{sizeOf}
+use Rattle.mask_records.specs.Placed.{recordSize}
 use Rattle.mask_records.specs.Found.{countIn, entryIn, headed, readOf}
 use Rattle.mask_records.proofs.Pairs.{pairs-length, pairs-high, pairs-low, head-length, record-parts, record-length}
 
@@ -50,7 +50,7 @@ module _ (sample : ℕ) (es rest : List ℕ) where
   unfolding recordOf
   second-length = omega (arith, pairs-length es)
 
-  size : length s ≡ sizeOf (length es) + length rest
+  size : length s ≡ recordSize (length es) + length rest
   size = length-append (recordOf sample es) rest ∙ ap (λ (k : ℕ). k + length rest) (record-length sample es)
 
   -- ---- the entries
@@ -79,11 +79,11 @@ module _ (sample : ℕ) (es rest : List ℕ) where
     pub head-back : headed s ≡ true
     unfolding headed
     head-back =
-        rw (eq-eqb _ _ first-tag, eq-eqb _ _ first-length, eq-eqb _ _ second-tag, count-back, eq-eqb _ _ second-length, le-leb _ _ lo, le-leb _ _ hi, le-leb (sizeOf (length es)) (length s) (omega (arith, size)))
+        rw (eq-eqb _ _ first-tag, eq-eqb _ _ first-length, eq-eqb _ _ second-tag, count-back, eq-eqb _ _ second-length, le-leb _ _ lo, le-leb _ _ hi, le-leb (recordSize (length es)) (length s) (omega (arith, size)))
 
     module _ (known : (i : ℕ) → i < length es → isEntry (getD es i 0) ≡ true) (lent : List ℕ) where
       -- written and read back: the same sample, count and entries; 13 where the lent slice has fewer places
-      pub read-back : readOf s lent ≡ pick (leb (length es) (length lent)) (Found sample (length es) (sizeOf (length es)), es ++ drop (length es) lent) (Refused Room, lent)
+      pub read-back : readOf s lent ≡ pick (leb (length es) (length lent)) (Found sample (length es) (recordSize (length es)), es ++ drop (length es) lent) (Refused Room, lent)
       unfolding readOf
       read-back =
           sym (passed _ _ _ (ne-eqb (length s) 0 (λ z. omega (arith, size))))

@@ -21,7 +21,7 @@ use Rattle.floats_laws.proofs.Rules.{neg-finite, add-number, finite-number}
 use Rattle.floats_laws.proofs.Gap.{gap-below, gap-above, div-one, one-less}
 use Rattle.floats_laws.proofs.Units.{one as i, zero-fits}
 use Rattle.windows.specs.declared.Window.{Window}
-use Rattle.floats.specs.Names.{nil, one}
+use Rattle.floats.specs.Names.{zero32, one}
 use Rattle.windows.specs.Opening.{cubic, taperOf, insideOf, opennessOf}
 use Rattle.mask_gains.specs.Opened.{touches}
 
@@ -125,7 +125,7 @@ module _ (w : Window) (log : Float) (fr : T (fits binary32 (w .«radius_octaves�
       (gap-above binary32 log c r fl fr ul uc ur
       (not-le→lt binary32 log (add binary32 c r) fl (add-fits binary32 c r) (finite-number binary32 log ul) (add-number binary32 c r (finite-number binary32 c uc) ur) (sym (ap (λ (b : Bool). not b && le log (add binary32 c r)) e) ∙ h))))
 
-  flat-inside : touches w log ≡ false → taperOf (clamp (insideOf w log) nil one) ≡ nought
+  flat-inside : touches w log ≡ false → taperOf (clamp (insideOf w log) zero32 one) ≡ nought
   unfolding taperOf insideOf ofBits
   flat-inside h =
       let d = abs (sub binary32 log c) in
@@ -133,9 +133,9 @@ module _ (w : Window) (log : Float) (fr : T (fits binary32 (w .«radius_octaves�
       taper-at (sub binary32 i q) (sub-fits binary32 i q)
       (subst (λ (x : Float). T (le (sub binary32 i q) x)) nothing-left (one-less binary32 q (div-fits binary32 d r) (div-one binary32 d r ur kr (outside h))))
 
-  pub shut : T (finite (w .amplitude)) → T (lt nought (w .amplitude)) → le r nil ≡ false → touches w log ≡ false → opennessOf w log ≡ nought
+  pub shut : T (finite (w .amplitude)) → T (lt nought (w .amplitude)) → le r zero32 ≡ false → touches w log ≡ false → opennessOf w log ≡ nought
   unfolding opennessOf
   shut ua ka nr h =
-      ap (λ (b : Bool). cond b nil (mul binary32 (w .amplitude) (taperOf (clamp (insideOf w log) nil one)))) nr
+      ap (λ (b : Bool). cond b zero32 (mul binary32 (w .amplitude) (taperOf (clamp (insideOf w log) zero32 one)))) nr
       ∙ ap (mul binary32 (w .amplitude)) (flat-inside h)
       ∙ zero-times (w .amplitude) ua ka

@@ -14,7 +14,7 @@ use Rattle.sequences.specs.All.{all}
 use Rattle.sequences.specs.Pick.{pick, by-case, went-left, went-right}
 use Rattle.sequences.specs.Every.{Every, every-getD}
 use Rattle.sequences.specs.Table.{table, table-at, length-table}
-use Rattle.script.specs.Bytes.{be16, be64}
+use Rattle.big_endian.specs.Numbers.{be16, be64}
 use Rattle.big_endian.specs.Bytes.{bytes16, bytes64}
 use Rattle.script_writer_laws.specs.Events.{Byte}
 use Rattle.script_writer_laws.proofs.Spelled.{behind, byte-again, bytes16-again, bytes64-again}
@@ -23,7 +23,7 @@ use Rattle.refusals.specs.declared.Refusal.the-variants.{Room, Record}
 use Rattle.mask_records.specs.declared.Read.{Read}
 use Rattle.mask_records.specs.declared.Read.the-variants.{End, Found, Refused}
 use Rattle.mask_records.specs.Bytes.{headOf, pairsOf, recordOf}
-use Rattle.mask_records.specs.Placed.{sizeOf}
+use Rattle.mask_records.specs.Placed.{recordSize}
 use Rattle.mask_records.specs.Found.{countIn, entryIn, headed, readOf}
 use Rattle.mask_records.proofs.Pairs.{pairs-length, pairs-high, pairs-low, record-parts}
 
@@ -32,7 +32,7 @@ module _ (s : List ℕ) (bytes : Every Byte s) where
   abbrev spelled : ℕ → ℕ → ℕ → ℕ → List ℕ
   spelled t l u k = t ∷ bytes16 l ++ bytes64 (be64 s 3) ++ bytes16 (be16 s 11) ++ u ∷ bytes16 k
 
-  own : sizeOf 0 ≤ length s → spelled (getD s 0 0) (be16 s 1) (getD s 13 0) (be16 s 14) ≡ take 16 s
+  own : recordSize 0 ≤ length s → spelled (getD s 0 0) (be16 s 1) (getD s 13 0) (be16 s 14) ≡ take 16 s
   own h =
       behind s bytes 14 2 0
       (behind s bytes 13 1 0
@@ -53,14 +53,14 @@ module _ (s : List ℕ) (bytes : Every Byte s) where
       let t3 : Bool = leb 1 n && leb n 8193 in
       let t4 : Bool = eqb (getD s 13 0) 33 in
       let t5 : Bool = eqb (be16 s 14) (2 * n) in
-      let t6 : Bool = leb (sizeOf n) (length s) in
+      let t6 : Bool = leb (recordSize n) (length s) in
       let t : T ((t1 && t2) && (t3 && ((t4 && t5) && t6))) = subst T (sym e) tt in
       let u : T ((t4 && t5) && t6) = and-r t3 ((t4 && t5) && t6) (and-r (t1 && t2) (t3 && ((t4 && t5) && t6)) t) in
       let a : getD s 0 0 ≡ 32 = eqb→eq _ _ (and-l t1 t2 (and-l (t1 && t2) (t3 && ((t4 && t5) && t6)) t)) in
       let c : be16 s 1 ≡ 10 = eqb→eq _ _ (and-r t1 t2 (and-l (t1 && t2) (t3 && ((t4 && t5) && t6)) t)) in
       let d : getD s 13 0 ≡ 33 = eqb→eq _ _ (and-l t4 t5 (and-l (t4 && t5) t6 u)) in
       let f : be16 s 14 ≡ 2 * n = eqb→eq _ _ (and-r t4 t5 (and-l (t4 && t5) t6 u)) in
-      let g : sizeOf n ≤ length s = leb→le _ _ (and-r (t4 && t5) t6 u) in
+      let g : recordSize n ≤ length s = leb→le _ _ (and-r (t4 && t5) t6 u) in
       ap (λ (x : ℕ). spelled x 10 33 (2 * n)) (sym a)
       ∙ ap (λ (x : ℕ). spelled (getD s 0 0) x 33 (2 * n)) (sym c)
       ∙ ap (λ (x : ℕ). spelled (getD s 0 0) (be16 s 1) x (2 * n)) (sym d)
@@ -68,7 +68,7 @@ module _ (s : List ℕ) (bytes : Every Byte s) where
       ∙ own (omega arith)
 
   -- ---- the entries
-  module _ (n : ℕ) (room : sizeOf n ≤ length s) where
+  module _ (n : ℕ) (room : recordSize n ≤ length s) where
     abbrev es : List ℕ
     es = table n (entryIn s)
 
@@ -110,7 +110,7 @@ module _ (s : List ℕ) (bytes : Every Byte s) where
         ext-getD 0 (pairsOf es) (take (2 * n) (drop 16 s)) (pairs-long ∙ sym rest-long)
         (λ j l. let k : j < 2 * n = omega (arith, pairs-long) in byte-back j k ∙ sym (getD-take (2 * n) (drop 16 s) j 0 k ∙ getD-drop 16 s j 0))
 
-    pub bytes-back : headed s ≡ true → n ≡ countIn s → recordOf (be64 s 3) es ≡ take (sizeOf n) s
+    pub bytes-back : headed s ≡ true → n ≡ countIn s → recordOf (be64 s 3) es ≡ take (recordSize n) s
     bytes-back e c =
         record-parts (be64 s 3) es
         ∙ ap (λ (h : List ℕ). h ++ pairsOf es) (ap (headOf (be64 s 3)) (es-long ∙ c) ∙ head-bytes e)
@@ -135,7 +135,7 @@ pub record FoundIn (s lent : List ℕ) (v n k : ℕ) : Type 0 where
   pub room : countIn s ≤ length lent
   pub sample : v ≡ be64 s 3
   pub count : n ≡ countIn s
-  pub taken : k ≡ sizeOf (countIn s)
+  pub taken : k ≡ recordSize (countIn s)
   pub lent-is : readOf s lent .1 ≡ table (countIn s) (entryIn s) ++ drop (countIn s) lent
 
 same-found : (v n k a b c : ℕ) → Found a b c ≡ Found v n k → (v ≡ a) × (n ≡ b) × (k ≡ c)
@@ -145,7 +145,7 @@ pub found-in : (s lent : List ℕ) (v n k : ℕ) → readOf s lent .0 ≡ Found 
 unfolding readOf is-found
 found-in s lent v n k q =
     let c = countIn s in
-    let done : Handed = (Found (be64 s 3) c (sizeOf c), table c (entryIn s) ++ drop c lent) in
+    let done : Handed = (Found (be64 s 3) c (recordSize c), table c (entryIn s) ++ drop c lent) in
     let x4 : Handed = pick (leb c (length lent)) done (Refused Room, lent) in
     let x3 : Handed = pick (all (λ i. isEntry (entryIn s i)) c) x4 (Refused Record, lent) in
     let x2 : Handed = pick (headed s) x3 (Refused Record, lent) in
@@ -158,7 +158,7 @@ found-in s lent v n k q =
     let e4 : is-found (x4 .0) ≡ true = ap (λ (x : Handed). is-found (x .0)) (sym (a3 .1)) ∙ e3 in
     let a4 = went-left IsFound done (Refused Room, lent) (leb c (length lent)) no e4 in
     let is : readOf s lent ≡ done = a1 .1 ∙ a2 .1 ∙ a3 .1 ∙ a4 .1 in
-    let g = same-found v n k (be64 s 3) c (sizeOf c) (ap (λ (x : Handed). x .0) (sym is) ∙ q) in
+    let g = same-found v n k (be64 s 3) c (recordSize c) (ap (λ (x : Handed). x .0) (sym is) ∙ q) in
     record {
       head = a2 .0;
       known = a3 .0;
@@ -169,14 +169,14 @@ found-in s lent v n k q =
       lent-is = ap (λ (x : Handed). x .1) is;
     }
 
-head-room : (s : List ℕ) → headed s ≡ true → sizeOf (countIn s) ≤ length s
+head-room : (s : List ℕ) → headed s ≡ true → recordSize (countIn s) ≤ length s
 unfolding headed
 head-room s e =
     let n = countIn s in
     let t1 : Bool = eqb (getD s 0 0) 32 && eqb (be16 s 1) 10 in
     let t3 : Bool = leb 1 n && leb n 8193 in
     let t4 : Bool = eqb (getD s 13 0) 33 && eqb (be16 s 14) (2 * n) in
-    let t6 : Bool = leb (sizeOf n) (length s) in
+    let t6 : Bool = leb (recordSize n) (length s) in
     leb→le _ _ (and-r t4 t6 (and-r t3 (t4 && t6) (and-r t1 (t3 && (t4 && t6)) (subst T (sym e) tt))))
 
 -- read, and written entry by entry: the same bytes

@@ -17,7 +17,7 @@ use Rattle.mask_records.specs.declared.Written.{Written}
 use Rattle.mask_records.specs.declared.Written.the-variants.{Upto, Refused}
 use Rattle.mask_records.specs.Bytes.{recordOf}
 use Rattle.mask_records.specs.Entries.{attenuationOf, isNumber}
-use Rattle.mask_records.specs.Placed.{sizeOf, placedOf}
+use Rattle.mask_records.specs.Placed.{recordSize, placedOf}
 use Rattle.mask_records.specs.Finished.{filledOf, finishedOf}
 
 is-placed : Written → Bool
@@ -61,7 +61,7 @@ module _ (sample : ℕ) (level : Float) (opened scratch : List Float) (out : Lis
     unfolding filledOf
     long = ap length f ∙ length-table _ _
 
-    room : (r, u) ≡ pick {A = One} (leb (at + sizeOf (length opened)) (length out)) (Upto (at + sizeOf (length opened)), splice out at (recordOf sample (filledOf level opened))) (Refused Room, out)
+    room : (r, u) ≡ pick {A = One} (leb (at + recordSize (length opened)) (length out)) (Upto (at + recordSize (length opened)), splice out at (recordOf sample (filledOf level opened))) (Refused Room, out)
     unfolding placedOf
     room = e ∙ rw (long, f)
 

@@ -15,7 +15,7 @@ use Rattle.floats.proofs.Values.{fine, same-fin}
 use Rattle.floats.proofs.Sat.{no}
 use Rattle.floats.proofs.Pack.{pow-lt-back}
 use Rattle.floats.specs.Choose.{clamp}
-use Rattle.floats.specs.Names.{f64, add64, mul64, nil}
+use Rattle.floats.specs.Names.{f64, add64, mul64, zero32}
 use Rattle.floats_laws.proofs.Rising.{nought}
 use Rattle.floats_laws.proofs.Units.{zero-fits}
 use Rattle.floats_laws.proofs.Mag.{Mag}
@@ -163,6 +163,6 @@ unfolding tenthsOf
 tenths-most a = nearest-most (held a)
 
 -- no attenuation at all
-pub no-tenths : tenthsOf nil ≡ 0
+pub no-tenths : tenthsOf zero32 ≡ 0
 unfolding tenthsOf leastFrom pick clamp lt ofBits
 no-tenths = refl

@@ -12,7 +12,7 @@ use Rattle.text.proofs.Laws.{piece, spliced, seq, turn}
 use Rattle.refusals.specs.declared.Refusal.the-variants.{Room}
 use Rattle.mask_records.specs.declared.Written.the-variants.{Upto, Refused}
 use Rattle.mask_records.specs.Bytes.{headOf, pairsOf}
-use Rattle.mask_records.specs.Placed.{sizeOf, placedOf}
+use Rattle.mask_records.specs.Placed.{recordSize, placedOf}
 use Rattle.mask_records.proofs.Pairs.{pairs-length, pairs-high, pairs-low, head-length, record-parts}
 
 -- ---- a turn of the loop: two bytes of an entry
@@ -33,11 +33,11 @@ pairs-all o at es i e h =
 
 -- ---- the whole
 module _ (sample : ℕ) (es out : List ℕ) (at : ℕ) where
-  pub no-room : length out < at + sizeOf (length es) → (Refused Room, out) ≡ placedOf sample es out at
+  pub no-room : length out < at + recordSize (length es) → (Refused Room, out) ≡ placedOf sample es out at
   unfolding placedOf
   no-room h = skipped _ _ _ _ (lt-leb _ _ h) refl
 
-  module _ (w p : List ℕ) (r : ℕ) (fits : at + sizeOf (length es) ≤ length out) (a : w ≡ headOf sample (length es)) (e : (r ≡ placeOf out at w) × (p ≡ bufferOf out at w)) where
+  module _ (w p : List ℕ) (r : ℕ) (fits : at + recordSize (length es) ≤ length out) (a : w ≡ headOf sample (length es)) (e : (r ≡ placeOf out at w) × (p ≡ bufferOf out at w)) where
     headed : Put out p at r (headOf sample (length es))
     headed = piece (rw (a) at e)
 
@@ -47,11 +47,11 @@ module _ (sample : ℕ) (es out : List ℕ) (at : ℕ) where
     pub head-same : length p ≡ length out
     head-same = headed .same
 
-    pub placed : (q : List ℕ) → q ≡ splice p r (pairsOf es) → (Upto (at + sizeOf (length es)), q) ≡ placedOf sample es out at
+    pub placed : (q : List ℕ) → q ≡ splice p r (pairsOf es) → (Upto (at + recordSize (length es)), q) ≡ placedOf sample es out at
     unfolding placedOf
     placed q s =
         let h = head-length sample (length es) in
         let k = pairs-length es in
         let both = seq headed (spliced (omega (arith, after-head, head-same)) s) in
         let t = both .fits (omega (arith, length-append (headOf sample (length es)) (pairsOf es))) in
-        took _ _ _ _ (le-leb _ _ fits) (ap (λ (x : List ℕ). (Upto (at + sizeOf (length es)), x)) (t .1 ∙ ap (splice out at) (sym (record-parts sample es))))
+        took _ _ _ _ (le-leb _ _ fits) (ap (λ (x : List ℕ). (Upto (at + recordSize (length es)), x)) (t .1 ∙ ap (splice out at) (sym (record-parts sample es))))

@@ -11,7 +11,7 @@ use Rattle.sequences.specs.All.{all, all-same, all-true}
 use Rattle.sequences.specs.Pick.{pick, picked, passed, took, skipped}
 use Rattle.sequences.specs.Table.{table, table-at, table-same, length-table}
 use Rattle.text.specs.Put.{splice}
-use Rattle.floats.specs.Names.{nil}
+use Rattle.floats.specs.Names.{zero32}
 use Rattle.mask_records.specs.Decibels.{entryOf}
 use Rattle.mask_records.proofs.Nearest.{no-tenths}
 use Rattle.mask_records.proofs.Ruled.{first-entry}
@@ -26,7 +26,7 @@ use Rattle.mask_records.specs.declared.Written.{Written}
 use Rattle.mask_records.specs.declared.Written.the-variants.{Upto, Refused}
 use Rattle.mask_records.specs.Bytes.{recordOf}
 use Rattle.mask_records.specs.Entries.{attenuationOf, attenuationAt, isNumber, entryFor}
-use Rattle.mask_records.specs.Placed.{sizeOf, placedOf}
+use Rattle.mask_records.specs.Placed.{recordSize, placedOf}
 use Rattle.mask_records.specs.Finished.{filledOf, finishedOf}
 use Rattle.mask_records.specs.Written.{entriesOf, scratchOf, writtenOf}
 
@@ -43,10 +43,10 @@ opened-is ws logs xs ys r m l e =
     ap (λ (p : Answer × List Float). p .1) (e ∙ sym (picked _ _ _ (eq-eqb _ _ m)) ∙ sym (picked _ _ _ l)) ∙ ap (λ (n : ℕ). table n (openAt ws logs)) m
 
 -- the record without an attenuation
-pub no-attenuation : entryFor nil ≡ 32768
+pub no-attenuation : entryFor zero32 ≡ 32768
 no-attenuation = ap entryOf no-tenths ∙ first-entry
 
-nil-number : isNumber nil ≡ true
+nil-number : isNumber zero32 ≡ true
 unfolding isNan ofBits
 nil-number = refl
 
@@ -60,7 +60,7 @@ beside-pick scratch false u v = refl
 
 -- ---- the ones give 32,768 at every bin
 module _ (f : Frame) (depth : Float) (logs : List Float) (q : quietOf depth (f .activity) ≡ true) where
-  quiet-at : (i : ℕ) → attenuationAt f depth logs i ≡ nil
+  quiet-at : (i : ℕ) → attenuationAt f depth logs i ≡ zero32
   unfolding attenuationAt
   quiet-at i = sym (picked _ _ _ q)
 
@@ -73,7 +73,7 @@ module _ (f : Frame) (depth : Float) (logs : List Float) (q : quietOf depth (f .
 
 module _ (sample : ℕ) (f : Frame) (depth : Float) (logs scratch : List Float) (out : List ℕ) (at : ℕ) where
   abbrev roomed : ℕ → List Float → List ℕ → Both
-  roomed n s es = pick (leb (at + sizeOf n) (length out)) (Upto (at + sizeOf n), s, splice out at (recordOf sample es)) (Refused Room, scratch, out)
+  roomed n s es = pick (leb (at + recordSize n) (length out)) (Upto (at + recordSize n), s, splice out at (recordOf sample es)) (Refused Room, scratch, out)
 
   abbrev numbered : Bool → ℕ → List Float → List ℕ → Both
   numbered b n s es = pick b (roomed n s es) (Refused Attenuation, scratch, out)

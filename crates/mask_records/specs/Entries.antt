@@ -4,7 +4,7 @@ use mathlib.Core.Bool.{Bool, not}
 use mathlib.Core.List.{List}
 use lib.Ieee.{Float, neg, isNan}
 use Rattle.sequences.specs.Pick.{pick}
-use Rattle.floats.specs.Names.{sub32, mul32, nil, one}
+use Rattle.floats.specs.Names.{sub32, mul32, zero32, one}
 use Rattle.mask_records.specs.Decibels.{entryOf}
 use Rattle.mask_records.specs.Tenths.{tenthsOf}
 use Rattle.windows.specs.declared.Frame.{Frame}
@@ -18,7 +18,7 @@ attenuationOf level o = neg (mul32 level (sub32 one o))
 -- 0 where 01's rule of depth and activity gives the ones
 unfoldable pub attenuationAt : Frame → Float → List Float → ℕ → Float
 attenuationAt f depth logs bin =
-    pick (quietOf depth (f .activity)) nil (attenuationOf (levelOf depth (f .activity)) (openAt (f .windows) logs bin))
+    pick (quietOf depth (f .activity)) zero32 (attenuationOf (levelOf depth (f .activity)) (openAt (f .windows) logs bin))
 
 -- refusal 18 looks at each bin's
 abbrev pub isNumber : Float → Bool

@@ -13,7 +13,7 @@ use Rattle.mask_records.specs.declared.Written.{Written}
 use Rattle.mask_records.specs.declared.Written.the-variants.{Upto, Refused}
 use Rattle.mask_records.specs.Bytes.{recordOf}
 use Rattle.mask_records.specs.Entries.{attenuationOf, isNumber, entryFor}
-use Rattle.mask_records.specs.Placed.{sizeOf}
+use Rattle.mask_records.specs.Placed.{recordSize}
 
 unfoldable pub filledOf : Float → List Float → List ℕ
 filledOf level opened = table (length opened) (λ i. entryFor (attenuationOf level (getD opened i nan)))
@@ -23,5 +23,5 @@ unfoldable pub finishedOf : ℕ → Float → List Float → List Float → List
 finishedOf sample level opened scratch out at =
     let n = length opened in
     pick (all (λ i. isNumber (attenuationOf level (getD opened i nan))) n)
-    (pick (leb (at + sizeOf n) (length out)) (Upto (at + sizeOf n), opened, splice out at (recordOf sample (filledOf level opened))) (Refused Room, scratch, out))
+    (pick (leb (at + recordSize n) (length out)) (Upto (at + recordSize n), opened, splice out at (recordOf sample (filledOf level opened))) (Refused Room, scratch, out))
     (Refused Attenuation, scratch, out)

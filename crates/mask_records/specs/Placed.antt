@@ -11,11 +11,11 @@ use Rattle.mask_records.specs.declared.Written.the-variants.{Upto, Refus
 use Rattle.mask_records.specs.Bytes.{recordOf}
 
 -- a record of n bins has 16 bytes and two for each bin
-abbrev pub sizeOf : ℕ → ℕ
-sizeOf n = 16 + 2 * n
+abbrev pub recordSize : ℕ → ℕ
+recordSize n = 16 + 2 * n
 
 -- the place after the record, and the buffer afterwards
 unfoldable pub placedOf : ℕ → List ℕ → List ℕ → ℕ → Written × List ℕ
 placedOf sample es out at =
-    let n = sizeOf (length es) in
+    let n = recordSize (length es) in
     pick (leb (at + n) (length out)) (Upto (at + n), splice out at (recordOf sample es)) (Refused Room, out)

@@ -3,12 +3,12 @@ use Prim.Native.Nat.{ℕ, zero, suc, _+_, _*_}
 use lib.Dec.{ltb}
 use lib.Ieee.{Float, nan, inf, fin, up, down}
 use Rattle.sequences.specs.Pick.{pick}
-use Rattle.floats.specs.Names.{f32, nil}
+use Rattle.floats.specs.Names.{f32, zero32}
 use Rattle.floats.specs.Choose.{clamp}
 
 -- held to 0 to 60 decibels
 abbrev pub held : Float → Float
-held a = clamp a nil (f32 0x42700000)
+held a = clamp a zero32 (f32 0x42700000)
 
 -- the least n with 20a < 2n + 1, so that 2n - 1 <= 20a too: from n on, after at most f others; a is num / den
 unfoldable pub leastFrom : ℕ → ℕ → ℕ → ℕ → ℕ

@@ -17,7 +17,7 @@ use Rattle.mask_records.specs.declared.Written.{Written}
 use Rattle.mask_records.specs.declared.Written.the-variants.{Upto, Refused}
 use Rattle.mask_records.specs.Bytes.{recordOf}
 use Rattle.mask_records.specs.Entries.{attenuationAt, isNumber, entryFor}
-use Rattle.mask_records.specs.Placed.{sizeOf}
+use Rattle.mask_records.specs.Placed.{recordSize}
 
 -- the entries of a frame's record, one a bin
 unfoldable pub entriesOf : Frame → Float → List Float → List ℕ
@@ -36,8 +36,8 @@ writtenOf sample f depth logs scratch out at =
     (pick (ltb n 1) (Refused Record, scratch, out)
     (pick (ltb 8193 n) (Refused Record, scratch, out)
     (pick (all (λ i. isNumber (attenuationAt f depth logs i)) n)
-    (pick (leb (at + sizeOf n) (length out))
-    (Upto (at + sizeOf n), scratchOf f depth logs scratch, splice out at (recordOf sample (entriesOf f depth logs)))
+    (pick (leb (at + recordSize n) (length out))
+    (Upto (at + recordSize n), scratchOf f depth logs scratch, splice out at (recordOf sample (entriesOf f depth logs)))
     (Refused Room, scratch, out))
     (Refused Attenuation, scratch, out))))
     (Refused Logs, scratch, out))

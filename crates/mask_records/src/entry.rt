@@ -1,6 +1,5 @@
 // The entry of each bin.
 ghost use mathlib.Core.Path.{_≡_};
-ghost use mathlib.Core.Bool.{not, _&&_};
 ghost use lib.ListN.{length, getD};
 ghost use lib.Ieee.{nan};
 ghost use Rattle.sequences.specs.All.{all};
@@ -15,13 +14,6 @@ pub fn attenuation(level: f32, openness: f32) -> f32
     -(level * (1.0 - openness))
 }
 
-// a && b with no branch.
-pub fn both(a: bool, b: bool) -> bool
-    ensures { λ r. ⌜ r ≡ (a && b) ⌝ }
-{
-    a && b
-}
-
 fn is_number(a: f32) -> bool
     ensures { λ r. ⌜ r ≡ isNumber a ⌝ }
 {
@@ -34,7 +26,7 @@ pub fn all_numbers(level: f32, opened: &[f32]) -> bool
 {
     let mut ok = true;
     for i in 0..opened.len() {
-        ok = both(ok, is_number(attenuation(level, opened[i])));
+        ok = floats::both(ok, is_number(attenuation(level, opened[i])));
     }
     ok
 }

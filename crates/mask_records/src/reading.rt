@@ -8,23 +8,22 @@ ghost use Rattle.mask_records.specs.Decibels.{entries, isEntry};
 ghost use Rattle.mask_records.specs.Found.{headed, entryIn, readOf};
 use crate::Read;
 use crate::decibels;
-use crate::entry::both;
 use crate::search::is_entry;
+use big_endian::be16_at;
+use big_endian::be64_at;
+use big_endian::byte;
 use refusals::Refusal;
-use script::be16_at;
-use script::be64_at;
-use script::byte;
 
 fn is_headed(s: &[u8]) -> bool
     ensures { λ r. ⌜ r ≡ headed (now (s .entry)) ⌝ }
 {
     let n = be16_at(s, 11) as usize;
-    both(
-        both(byte(s, 0) == 32, be16_at(s, 1) == 10),
-        both(
-            both(1 <= n, n <= 8193),
-            both(
-                both(byte(s, 13) == 33, be16_at(s, 14) as usize == 2 * n),
+    floats::both(
+        floats::both(byte(s, 0) == 32, be16_at(s, 1) == 10),
+        floats::both(
+            floats::both(1 <= n, n <= 8193),
+            floats::both(
+                floats::both(byte(s, 13) == 33, be16_at(s, 14) as usize == 2 * n),
                 16 + 2 * n <= s.len(),
             ),
         ),
@@ -37,7 +36,7 @@ fn all_entries(gains: &[u16; 601], s: &[u8], n: usize) -> bool
 {
     let mut ok = true;
     for i in 0..n {
-        ok = both(ok, is_entry(gains, be16_at(s, 16 + 2 * i)));
+        ok = floats::both(ok, is_entry(gains, be16_at(s, 16 + 2 * i)));
     }
     ok
 }

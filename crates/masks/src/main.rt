@@ -140,7 +140,7 @@ fn file(
     out: &mut [u8],
     text: &mut [u8],
 ) {
-    if script.len() > 60000 {
+    if script.len() > script::MAX_SCRIPT_BYTES {
         return say_line(text, Line::Bad(0, Refusal::Script));
     }
     mask_files::prepare(script, size, logs);

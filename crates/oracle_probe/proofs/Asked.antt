@@ -1,5 +1,5 @@
 -- The sum of the answers goes on by one event: with an answer where one is asked for, and else as it was.
-use Prim.Native.Nat.{ℕ, suc, _+_, _%_, _^_}
+use Prim.Native.Nat.{ℕ, _+_, _%_, _^_}
 use native.Mathlib.Numerals.{add-one}
 use mathlib.Core.Path.{_≡_, ap, _∙_}
 use mathlib.Core.Bool.{Bool, true, false}

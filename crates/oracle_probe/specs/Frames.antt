@@ -8,10 +8,10 @@ use Rattle.refusals.specs.declared.Answer.{Answer}
 use Rattle.refusals.specs.Numbers.{answerOf}
 use Rattle.windows.specs.declared.Window.{Window}
 use Rattle.windows.specs.declared.Frame.{Frame}
-use Rattle.floats.specs.Names.{nil}
+use Rattle.floats.specs.Names.{zero32}
 
 unfoldable pub windowAt : List Float → ℕ → Window
-windowAt flat j = record { «center_log2_hz» = getD flat (3 * j) nil; «radius_octaves» = getD flat (3 * j + 1) nil; amplitude = getD flat (3 * j + 2) nil }
+windowAt flat j = record { «center_log2_hz» = getD flat (3 * j) zero32; «radius_octaves» = getD flat (3 * j + 1) zero32; amplitude = getD flat (3 * j + 2) zero32 }
 
 unfoldable pub frameOf : List Float → Float → Frame
 frameOf flat activity = record { windows = table 192 (windowAt flat); activity = activity }

@@ -13,8 +13,8 @@ abbrev pub toldPlace : ℕ → Written → ℕ × ℕ
 toldPlace at (W.Upto after) = (0, after)
 toldPlace at (W.Refused refusal) = (numberOf refusal, at)
 
-abbrev pub toldOf : ℕ → Written × List Float × List ℕ → ℕ × ℕ × List Float × List ℕ
-toldOf at (written, scratch, out) = let told = toldPlace at written in (told .0, told .1, scratch, out)
+abbrev pub toldRecord : ℕ → Written × List Float × List ℕ → ℕ × ℕ × List Float × List ℕ
+toldRecord at (written, scratch, out) = let told = toldPlace at written in (told .0, told .1, scratch, out)
 
 -- 0 and the record's sample, count and size; 255 at the end of a file, or the refusal's number, and these as they were
 abbrev pub toldNumbers : ℕ → ℕ → ℕ → Read → ℕ × ℕ × ℕ × ℕ

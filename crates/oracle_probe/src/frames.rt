@@ -2,10 +2,10 @@
 ghost use mathlib.Core.Path.{_≡_};
 ghost use Prim.Native.Nat.{_<_};
 ghost use lib.ListN.{getD};
-ghost use Rattle.floats.specs.Names.{nil};
+ghost use Rattle.floats.specs.Names.{zero32};
 ghost use Rattle.windows.specs.Opening.{taperOf, opennessOf};
 ghost use Rattle.windows.specs.Attenuation.{attenuationOf};
-ghost use Rattle.mask_gains.specs.Bins.{preparedOf};
+ghost use Rattle.mask_gains.specs.Bins.{binTableOf};
 ghost use Rattle.mask_gains.specs.Gains.{gainsOf};
 ghost use Rattle.oracle_probe.specs.Frames.{windowAt, frameOf, numbered, numberedBoth};
 use windows::Frame;
@@ -13,7 +13,7 @@ use windows::Window;
 
 // 0.0 past the end.
 fn float_at(flat: &[f32], i: usize) -> f32
-    ensures { λ r. ⌜ r ≡ getD (now (flat .entry)) i nil ⌝ }
+    ensures { λ r. ⌜ r ≡ getD (now (flat .entry)) i zero32 ⌝ }
 {
     if i < flat.len() {
         return flat[i];
@@ -35,11 +35,7 @@ fn window_at(flat: &[f32], j: usize) -> Window
 pub fn frame_of(flat: &[f32], activity: f32) -> Frame
     ensures { λ r. ⌜ r ≡ frameOf (now (flat .entry)) activity ⌝ }
 {
-    let none = Window {
-        center_log2_hz: 0.0,
-        radius_octaves: 0.0,
-        amplitude: 0.0,
-    };
+    let none = windows::empty_window();
     let mut windows = [none; 192];
     for j in 0..192 {
         let w = window_at(flat, j);
@@ -82,7 +78,7 @@ pub extern "C" fn rk_probe_attenuation_db(
 
 #[no_mangle]
 pub extern "C" fn rk_probe_bin_table(sample_rate: f32, fft_size: u64, table: &mut [f32]) -> u64
-    ensures { λ r. ⌜ (r, now (table .exit)) ≡ numbered (preparedOf «sample_rate» «fft_size» (now (table .entry))) ⌝ }
+    ensures { λ r. ⌜ (r, now (table .exit)) ≡ numbered (binTableOf «sample_rate» «fft_size» (now (table .entry))) ⌝ }
 {
     refusals::answer_number(mask_gains::bin_table(sample_rate, fft_size as usize, table))
 }

@@ -12,13 +12,13 @@ ghost use lib.IntN.{pos};
 ghost use Prim.Native.Nat.{_<_};
 ghost use mathlib.Core.Path.{_≡_};
 ghost use Rattle.oracle_probe.specs.Numbers.{shapeOf, directionOf, configOf, sampledOf, weightOf, weightsOf, packedOf};
-ghost use Rattle.pitch.specs.Register.{heightOf, strengthOf, probabilityOf};
+ghost use Rattle.pitch.specs.Register.{heightOf, registerStrength, probabilityOf};
 ghost use Rattle.pitch.specs.Cloud.{frequencyOf};
 ghost use Rattle.pitch.specs.Octave.{registerOf};
 ghost use Rattle.pitch.specs.Partials.{partialsOf as partialsBy};
 ghost use Rattle.settings.specs.Mending.{attackOf, releaseMsOf, partialsOf, rolloffOf, rateOf, sizeOf, phaseOf, mendedOf};
-ghost use Rattle.settings.specs.Envelope.{envelopeOf};
-ghost use Rattle.timing.specs.Streams.{preparedOf, alignedOf, referenceOf};
+ghost use Rattle.settings.specs.Envelope.{contourOf};
+ghost use Rattle.timing.specs.Streams.{preparedStream, alignedOf, referenceOf};
 use settings::Config;
 use settings::Direction;
 use settings::Shape;
@@ -388,7 +388,7 @@ pub extern "C" fn rk_probe_lifetime(
     index: u64,
     sample_rate: f32,
 ) -> f32
-    ensures { λ r. ⌜ r ≡ envelopeOf (mendedOf (configOf kind way rate size (f32 0) hop 1 (f32 0x40c00000) attack release)) index «sample_rate» .lifetime ⌝ }
+    ensures { λ r. ⌜ r ≡ contourOf (mendedOf (configOf kind way rate size (f32 0) hop 1 (f32 0x40c00000) attack release)) index «sample_rate» .lifetime ⌝ }
 {
     let config = config_of(kind, way, rate, size, 0.0, hop, 1, 6.0, attack, release);
     let contour = settings::envelope(settings::mended(config), index, sample_rate);
@@ -407,7 +407,7 @@ pub extern "C" fn rk_probe_attack(
     index: u64,
     sample_rate: f32,
 ) -> f32
-    ensures { λ r. ⌜ r ≡ envelopeOf (mendedOf (configOf kind way rate size (f32 0) hop 1 (f32 0x40c00000) attack release)) index «sample_rate» .attack ⌝ }
+    ensures { λ r. ⌜ r ≡ contourOf (mendedOf (configOf kind way rate size (f32 0) hop 1 (f32 0x40c00000) attack release)) index «sample_rate» .attack ⌝ }
 {
     let config = config_of(kind, way, rate, size, 0.0, hop, 1, 6.0, attack, release);
     let contour = settings::envelope(settings::mended(config), index, sample_rate);
@@ -415,7 +415,7 @@ pub extern "C" fn rk_probe_attack(
 }
 
 fn prepared(index: u64, lane: u32, sync: bool) -> SprinkleStream
-    ensures { λ r. ⌜ r ≡ preparedOf index lane sync ⌝ }
+    ensures { λ r. ⌜ r ≡ preparedStream index lane sync ⌝ }
 {
     let stream = SprinkleStream {
         index,
@@ -428,7 +428,7 @@ fn prepared(index: u64, lane: u32, sync: bool) -> SprinkleStream
 // A stream at an index: when it starts, and whether it sounds.
 #[no_mangle]
 pub extern "C" fn rk_probe_prepared_next(index: u64, lane: u32, sync: bool) -> f64
-    ensures { λ r. ⌜ r ≡ preparedOf index lane sync .next ⌝ }
+    ensures { λ r. ⌜ r ≡ preparedStream index lane sync .next ⌝ }
 {
     let stream = prepared(index, lane, sync);
     stream.next
@@ -436,7 +436,7 @@ pub extern "C" fn rk_probe_prepared_next(index: u64, lane: u32, sync: bool) -> f
 
 #[no_mangle]
 pub extern "C" fn rk_probe_prepared_emit(index: u64, lane: u32, sync: bool) -> bool
-    ensures { λ r. ⌜ r ≡ preparedOf index lane sync .emit ⌝ }
+    ensures { λ r. ⌜ r ≡ preparedStream index lane sync .emit ⌝ }
 {
     let stream = prepared(index, lane, sync);
     stream.emit
@@ -501,7 +501,7 @@ pub extern "C" fn rk_probe_register_height(log_hz: f32) -> f32
 
 #[no_mangle]
 pub extern "C" fn rk_probe_register_strength(log_hz: f32) -> f32
-    ensures { λ r. ⌜ r ≡ strengthOf «log_hz» ⌝ }
+    ensures { λ r. ⌜ r ≡ registerStrength «log_hz» ⌝ }
 {
     pitch::register_strength(log_hz)
 }

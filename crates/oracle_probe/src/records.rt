@@ -5,7 +5,7 @@ ghost use Rattle.mask_records.specs.Tenths.{tenthsOf};
 ghost use Rattle.mask_records.specs.Written.{writtenOf};
 ghost use Rattle.mask_records.specs.Found.{readOf};
 ghost use Rattle.oracle_probe.specs.Frames.{frameOf};
-ghost use Rattle.oracle_probe.specs.Records.{toldPlace, toldOf, toldNumbers, foundOf};
+ghost use Rattle.oracle_probe.specs.Records.{toldPlace, toldRecord, toldNumbers, foundOf};
 use mask_records::Read;
 use mask_records::Written;
 
@@ -52,7 +52,7 @@ pub extern "C" fn rk_probe_write_record(
     out: &mut [u8],
     at: &mut u64,
 ) -> u64
-    ensures { λ r. ⌜ (r, now (at .exit), now (scratch .exit), now (out .exit)) ≡ toldOf (now (at .entry)) (writtenOf sample (frameOf (now (flat .entry)) activity) «depth_db» (now (logs .entry)) (now (scratch .entry)) (now (out .entry)) (now (at .entry))) ⌝ }
+    ensures { λ r. ⌜ (r, now (at .exit), now (scratch .exit), now (out .exit)) ≡ toldRecord (now (at .entry)) (writtenOf sample (frameOf (now (flat .entry)) activity) «depth_db» (now (logs .entry)) (now (scratch .entry)) (now (out .entry)) (now (at .entry))) ⌝ }
 {
     let frame = crate::frames::frame_of(flat, activity);
     let written = mask_records::write_record(

@@ -1,6 +1,6 @@
 -- Laws of what fields leave: how the fields that are left go on, how many bytes they leave, and the ways out of handing them over.
 use Prim.Native.Nat.{ℕ, zero, suc, _+_, _-_, _*_, _≤_, _<_}
-use mathlib.Core.Path.{_≡_, refl, sym, _∙_}
+use mathlib.Core.Path.{_≡_, _∙_}
 use mathlib.Core.List.{List, [], _++_}
 use native.Mathlib.Nat.{zero-add}
 use native.Mathlib.Omega.{arith}
@@ -16,9 +16,10 @@ use Rattle.script_steps.specs.Steps.{fresh}
 use Rattle.listing.specs.declared.turns.Turn.{Turn}
 use Rattle.listing.specs.Turns.{turnOf}
 use Rattle.listing.proofs.TurnLaws.{turn-taken, turn-three}
+use Rattle.oracle_replay.specs.Late.{afterOf}
 use Rattle.oracle_replay.proofs.Whole.{state-length}
 use Rattle.entry.proofs.FrameBytes.{frame-length}
-use Rattle.oracle_replay.specs.Replay.{afterOf, answerOf, leftBy, leftFrom, leftOf, handedCount, handedIn}
+use Rattle.oracle_replay.specs.Replay.{answerOf, leftBy, leftFrom, leftOf, handedCount, handedIn}
 
 -- what one field leaves
 field-length : (run : Run) (answer : ℕ) → length (joined (leftBy run answer)) ≡ 16493

@@ -1,3 +1,4 @@
+pub mod LateText
 pub mod Left
 mod Joined
 pub mod Whole

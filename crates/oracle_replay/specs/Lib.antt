@@ -1,3 +1,4 @@
+pub mod Late
 pub mod Replay
 pub mod Numbers
 pub mod State

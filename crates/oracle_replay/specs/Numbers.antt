@@ -19,28 +19,28 @@ use Rattle.state.specs.declared.Engine.{Engine}
 use Rattle.state.specs.declared.Prepared.{Prepared}
 use Rattle.timing.specs.declared.SprinkleStream.{SprinkleStream}
 
-abbrev pub none : ℕ
-none = 18446744073709551615
+abbrev pub noneWord : ℕ
+noneWord = 18446744073709551615
 
 unfoldable pub flagOf : Bool → ℕ
 flagOf b = pick b 1 0
 
 -- 256 stands for no source
 unfoldable pub slotOf : ℕ → ℕ
-slotOf n = pick (eqb n 256) none n
+slotOf n = pick (eqb n 256) noneWord n
 
 abbrev pub retiredOf : Retired → ℕ
-retiredOf Not = none
+retiredOf Not = noneWord
 retiredOf (At sample) = sample
 
-abbrev pub shapeOf : Shape → ℕ
-shapeOf Sprinkle = 0
-shapeOf Cloud = 1
+abbrev pub shapeWord : Shape → ℕ
+shapeWord Sprinkle = 0
+shapeWord Cloud = 1
 
-abbrev pub directionOf : Direction → ℕ
-directionOf Forward = 0
-directionOf Reverse = 1
-directionOf Alternate = 2
+abbrev pub directionWord : Direction → ℕ
+directionWord Forward = 0
+directionWord Reverse = 1
+directionWord Alternate = 2
 
 abbrev single : Float → ℕ
 single x = toBits binary32 x
@@ -65,11 +65,11 @@ countsOf e =
     ∷ e .tally .held
     ∷ []
 
-abbrev pub configOf : Config → List ℕ
-configOf c =
+abbrev pub configWords : Config → List ℕ
+configWords c =
     flagOf (c .enabled)
-    ∷ shapeOf (c .shape)
-    ∷ directionOf (c .direction)
+    ∷ shapeWord (c .shape)
+    ∷ directionWord (c .direction)
     ∷ single (c .«rate_hz»)
     ∷ single (c .«size_octaves»)
     ∷ single (c .phase)
@@ -82,18 +82,18 @@ configOf c =
     ∷ single (c .«release_ms»)
     ∷ []
 
-abbrev pub preparedOf : Prepared → List ℕ
-preparedOf p = double (p .«sample_rate») ∷ double (p .«phase_alpha») ∷ []
+abbrev pub preparedWords : Prepared → List ℕ
+preparedWords p = double (p .«sample_rate») ∷ double (p .«phase_alpha») ∷ []
 
 -- the log of a harmonic, its weight at the start, and its weight now
-abbrev pub harmonicOf : Float → Float → Float → List ℕ
-harmonicOf log first now = single log ∷ single first ∷ single now ∷ []
+abbrev pub harmonicWords : Float → Float → Float → List ℕ
+harmonicWords log first now = single log ∷ single first ∷ single now ∷ []
 
 abbrev pub streamOf : SprinkleStream → List ℕ
 streamOf s = s .index ∷ double (s .next) ∷ flagOf (s .emit) ∷ []
 
-abbrev pub sourceOf : Source → List ℕ
-sourceOf s = single (s .«frequency_hz») ∷ single (s .strength) ∷ flagOf (s .eligible) ∷ []
+abbrev pub sourceWords : Source → List ℕ
+sourceWords s = single (s .«frequency_hz») ∷ single (s .strength) ∷ flagOf (s .eligible) ∷ []
 
 abbrev pub particleOf : Particle → List ℕ
 particleOf p =

@@ -17,9 +17,9 @@ use Rattle.engine.specs.Triggers.{triggeredOf, triggeredBy}
 use Rattle.script_steps.specs.declared.Run.{Run}
 use Rattle.script_steps.specs.Steps.{fresh}
 use Rattle.listing.specs.Turns.{turnOf}
-use Rattle.listing.specs.TurnsLate.{countedOf}
 use Rattle.listing.specs.declared.Listed.{Listed}
 use Rattle.listing.specs.declared.Listed.the-variants.{Count, Refused}
+use Rattle.oracle_replay.specs.Late.{afterOf}
 use Rattle.oracle_replay.specs.State.{stateBytes}
 use Rattle.entry.specs.Entry.{frameBytes}
 
@@ -28,16 +28,12 @@ abbrev pub countOf : Listed → ℕ
 countOf (Count n) = n
 countOf (Refused r) = 0
 
--- the first field makes the engine, which has counted so many samples then
-unfoldable pub afterOf : ℕ → ℕ → Run → Run
-afterOf start n run = pick (eqb n 1) (countedOf start run) run
-
 -- refusals stand in the listing
-abbrev pub outcomeOf : Outcome → ℕ
-outcomeOf O.Born = 1
-outcomeOf O.NotEligible = 2
-outcomeOf O.Dropped = 3
-outcomeOf (O.Refused r) = 0
+abbrev pub outcomeNumber : Outcome → ℕ
+outcomeNumber O.Born = 1
+outcomeNumber O.NotEligible = 2
+outcomeNumber O.Dropped = 3
+outcomeNumber (O.Refused r) = 0
 
 -- what a field's trigger answers, on the run that it meets; 0 where the field is no trigger
 unfoldable pub triggerOf : Run → Field → ℕ
@@ -46,14 +42,14 @@ triggerOf run (F.Configure c) = 0
 triggerOf run (F.Source s f g b) = 0
 triggerOf run (F.Retire s) = 0
 triggerOf run (F.Release s) = 0
-triggerOf run (F.Trigger s) = outcomeOf (triggeredOf (run .engine) s .outcome)
+triggerOf run (F.Trigger s) = outcomeNumber (triggeredOf (run .engine) s .outcome)
 triggerOf run (F.Seek x) = 0
 triggerOf run (F.Advance n) = 0
 triggerOf run (F.Frame b x) = 0
 triggerOf run (F.NoteInput b) = 0
 triggerOf run F.Reset = 0
 triggerOf run F.Reserve = 0
-triggerOf run (F.ReservedTrigger s i) = outcomeOf (triggeredBy (run .engine) s i .outcome)
+triggerOf run (F.ReservedTrigger s i) = outcomeNumber (triggeredBy (run .engine) s i .outcome)
 
 abbrev pub readAnswer : Run → Read → ℕ
 readAnswer run (S.Field f k) = triggerOf run f

@@ -11,7 +11,7 @@ use Rattle.sources.specs.Sources.{noSource}
 use Rattle.state.specs.declared.Engine.{Engine}
 use Rattle.timing.specs.declared.SprinkleStream.{SprinkleStream}
 use Rattle.timing.specs.Streams.{newOf}
-use Rattle.oracle_replay.specs.Numbers.{countsOf, configOf, preparedOf, harmonicOf, streamOf, sourceOf, particleOf}
+use Rattle.oracle_replay.specs.Numbers.{countsOf, configWords, preparedWords, harmonicWords, streamOf, sourceWords, particleOf}
 
 -- g i, then g (i + 1), .., n of them
 unfoldable pub joined : (ℕ → List ℕ) → ℕ → ℕ → List ℕ
@@ -34,13 +34,13 @@ unfoldable pub wordsBytes : List ℕ → List ℕ
 wordsBytes ws = joined (λ i. wordBytes (getD ws i 0)) 0 (length ws)
 
 unfoldable pub harmonicsBytes : List Float → List Float → List Float → List ℕ
-harmonicsBytes logs defaults weights = joined (λ i. wordsBytes (harmonicOf (getD logs i nan) (getD defaults i nan) (getD weights i nan))) 0 24
+harmonicsBytes logs defaults weights = joined (λ i. wordsBytes (harmonicWords (getD logs i nan) (getD defaults i nan) (getD weights i nan))) 0 24
 
 unfoldable pub streamsBytes : List SprinkleStream → List ℕ
 streamsBytes ss = joined (λ i. wordsBytes (streamOf (getD ss i (newOf 0 false)))) 0 3
 
 unfoldable pub sourcesBytes : List Source → List ℕ
-sourcesBytes ss = joined (λ i. wordsBytes (sourceOf (getD ss i noSource))) 0 256
+sourcesBytes ss = joined (λ i. wordsBytes (sourceWords (getD ss i noSource))) 0 256
 
 unfoldable pub particlesBytes : List Particle → List ℕ
 particlesBytes ps = joined (λ i. wordsBytes (particleOf (getD ps i freeParticle))) 0 64
@@ -48,8 +48,8 @@ particlesBytes ps = joined (λ i. wordsBytes (particleOf (getD ps i freeParticle
 unfoldable pub stateBytes : Engine → List ℕ
 stateBytes e =
     wordsBytes (countsOf e)
-    ++ wordsBytes (configOf (e .config))
-    ++ wordsBytes (preparedOf (e .prepared))
+    ++ wordsBytes (configWords (e .config))
+    ++ wordsBytes (preparedWords (e .prepared))
     ++ harmonicsBytes (e .prepared .«partial_logs») (e .prepared .«default_partial_weights») (e .«partial_weights»)
     ++ streamsBytes (e .streams)
     ++ sourcesBytes (e .sources)

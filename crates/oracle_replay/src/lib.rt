@@ -5,8 +5,8 @@ ghost use Prim.Native.Nat.{_+_, _-_, _<_, _≤_};
 ghost use lib.ListN.{length, drop};
 ghost use Rattle.text.specs.Put.{Put, placeAfter, bufferAfter};
 ghost use Rattle.listing.specs.Listed.{listedOf, leftIn};
-ghost use Rattle.listing.specs.Late.{listedLate, leftLate};
-ghost use Rattle.oracle_replay.specs.Replay.{countOf, afterOf, outcomeOf, triggerOf, answerOf, leftBy, leftFrom, handedCount, handedIn};
+ghost use Rattle.oracle_replay.specs.Late.{listedLate, leftLate};
+ghost use Rattle.oracle_replay.specs.Replay.{countOf, outcomeNumber, triggerOf, answerOf, leftBy, leftFrom, handedCount, handedIn};
 use engine::Outcome;
 use engine::Triggered;
 use listing::Listed;
@@ -14,9 +14,12 @@ use script::Field;
 use script::Read;
 use script_steps::Run;
 
+mod late;
 mod numbers;
 mod states;
 mod written;
+
+pub use late::list_script_from;
 
 fn count(listed: Listed) -> usize
     ensures { λ r. ⌜ r ≡ countOf listed ⌝ }
@@ -40,21 +43,11 @@ pub extern "C" fn rk_probe_listing(script: &[u8], out: &mut [u8]) -> usize
 pub extern "C" fn rk_probe_listing_from(start: u64, script: &[u8], out: &mut [u8]) -> usize
     ensures { λ r. ⌜ (r ≡ countOf (listedLate start (length (now (out .entry))) (now (script .entry)))) × (now (out .exit) ≡ leftLate start (now (out .entry)) (now (script .entry))) ⌝ }
 {
-    count(listing::list_script_from(start, script, out))
-}
-
-// The run after field n.
-fn after(start: u64, n: u64, run: Run) -> Run
-    ensures { λ r. ⌜ r ≡ afterOf start n run ⌝ }
-{
-    if n == 1 {
-        return listing::counted(run, start);
-    }
-    run
+    count(late::list_script_from(start, script, out))
 }
 
 fn outcome(triggered: Triggered) -> u8
-    ensures { λ r. ⌜ r ≡ outcomeOf (triggered .outcome) ⌝ }
+    ensures { λ r. ⌜ r ≡ outcomeNumber (triggered .outcome) ⌝ }
 {
     let outcome = triggered.outcome;
     match outcome {
@@ -137,7 +130,7 @@ fn put_fields(
         }
         let answer = answer(run, n, &script[at..]);
         let next = turn.run;
-        run = after(start, n, next);
+        run = late::after(start, n, next);
         w = put_field(out, w, run, answer);
         at = at + k;
         n = n + 1;
@@ -151,7 +144,7 @@ fn put_fields(
 pub extern "C" fn rk_probe_fields_from(start: u64, script: &[u8], out: &mut [u8]) -> usize
     ensures { λ r. ⌜ (r ≡ handedCount start (now (script .entry)) (now (out .entry))) × (now (out .exit) ≡ handedIn start (now (script .entry)) (now (out .entry))) ⌝ }
 {
-    if 60000 < script.len() {
+    if script::MAX_SCRIPT_BYTES < script.len() {
         return 0;
     }
     if out.len() < 5498 * script.len() {

@@ -2,7 +2,7 @@
 // all ones.
 ghost use mathlib.Core.Path.{_≡_};
 ghost use lib.Ieee.{binary32, toBits};
-ghost use Rattle.oracle_replay.specs.Numbers.{flagOf, slotOf, retiredOf, shapeOf, directionOf, countsOf, configOf, preparedOf, harmonicOf, streamOf, sourceOf, particleOf};
+ghost use Rattle.oracle_replay.specs.Numbers.{flagOf, slotOf, retiredOf, shapeWord, directionWord, countsOf, configWords, preparedWords, harmonicWords, streamOf, sourceWords, particleOf};
 use pool::Particle;
 use pool::Retired;
 use settings::Config;
@@ -40,7 +40,7 @@ fn retired(r: Retired) -> u64
 }
 
 fn shape(s: Shape) -> u64
-    ensures { λ r. ⌜ r ≡ shapeOf s ⌝ }
+    ensures { λ r. ⌜ r ≡ shapeWord s ⌝ }
 {
     match s {
         Shape::Sprinkle => 0,
@@ -49,7 +49,7 @@ fn shape(s: Shape) -> u64
 }
 
 fn direction(d: Direction) -> u64
-    ensures { λ r. ⌜ r ≡ directionOf d ⌝ }
+    ensures { λ r. ⌜ r ≡ directionWord d ⌝ }
 {
     match d {
         Direction::Forward => 0,
@@ -91,7 +91,7 @@ pub fn counts(e: Engine) -> [u64; 13]
 }
 
 pub fn config(c: Config) -> [u64; 13]
-    ensures { λ r. ⌜ r ≡ configOf c ⌝ }
+    ensures { λ r. ⌜ r ≡ configWords c ⌝ }
 {
     let kind = c.shape;
     let way = c.direction;
@@ -113,13 +113,13 @@ pub fn config(c: Config) -> [u64; 13]
 }
 
 pub fn prepared(p: Prepared) -> [u64; 2]
-    ensures { λ r. ⌜ r ≡ preparedOf p ⌝ }
+    ensures { λ r. ⌜ r ≡ preparedWords p ⌝ }
 {
     [floats::bits64(p.sample_rate), floats::bits64(p.phase_alpha)]
 }
 
 pub fn harmonic(log: f32, default_weight: f32, weight: f32) -> [u64; 3]
-    ensures { λ r. ⌜ r ≡ harmonicOf log «default_weight» weight ⌝ }
+    ensures { λ r. ⌜ r ≡ harmonicWords log «default_weight» weight ⌝ }
 {
     [single(log), single(default_weight), single(weight)]
 }
@@ -131,7 +131,7 @@ pub fn stream(s: SprinkleStream) -> [u64; 3]
 }
 
 pub fn source(s: Source) -> [u64; 3]
-    ensures { λ r. ⌜ r ≡ sourceOf s ⌝ }
+    ensures { λ r. ⌜ r ≡ sourceWords s ⌝ }
 {
     [single(s.frequency_hz), single(s.strength), flag(s.eligible)]
 }

@@ -1,5 +1,4 @@
 // The state as bytes in a lent buffer: 8 for each number, the highest first.
-ghost use mathlib.Core.Path.{_≡_};
 ghost use Rattle.text.specs.Put.{Put};
 ghost use Rattle.oracle_replay.specs.State.{wordBytes, wordsBytes, harmonicsBytes, streamsBytes, sourcesBytes, particlesBytes, stateBytes};
 use pool::Particle;

@@ -64,7 +64,7 @@ fn rewrite_fields(script: &[u8], out: &mut [u8]) -> usize
 pub extern "C" fn rk_probe_rewritten(script: &[u8], out: &mut [u8]) -> usize
     ensures { λ r. ⌜ (r ≡ countAfter (now (out .entry)) 0 (events (readingOf (now (script .entry))))) × (now (out .exit) ≡ bytesAfter (now (out .entry)) 0 (events (readingOf (now (script .entry))))) ⌝ }
 {
-    if 60000 < script.len() {
+    if script::MAX_SCRIPT_BYTES < script.len() {
         return 0;
     }
     rewrite_fields(script, out)

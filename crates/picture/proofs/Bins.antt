@@ -8,7 +8,7 @@ use lib.Dec.{T, eqb, leb, ltb, eqb→eq, leb→le, ltb→lt}
 use lib.Ieee.Fits.{and-l, and-r}
 use lib.ListN.{length, getD, drop, drop-of-length-le}
 use lib.Seq.{drop-cons}
-use Rattle.sequences.specs.All.{all, all-at}
+use Rattle.sequences.specs.All.{all-at}
 use Rattle.sequences.specs.Pick.{pick}
 use Rattle.picture.specs.Rows.{widthOf, firstBin, sumOf}
 

@@ -19,7 +19,7 @@ fn next(bytes: &mut [u8]) -> usize
     if head < 16 {
         return head;
     }
-    let count = script::be16_at(bytes, 11) as usize;
+    let count = big_endian::be16_at(bytes, 11) as usize;
     if count > 8193 {
         return 16;
     }

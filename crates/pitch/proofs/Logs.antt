@@ -7,7 +7,7 @@ use lib.Ieee.{Float, binary32, fits, isNan, lt, eq, toBits, round, sum, add, sub
 use lib.Ieee.Bits.{ofBits-toBits}
 use Rattle.floats.specs.Names.{f32, div32}
 use Rattle.elementary.specs.Rung.{rungOf, digitsOf}
-use Rattle.elementary.specs.Parabolas.{tops, topOf, slopes, slopeOf, bends, bendOf}
+use Rattle.elementary.specs.LogCells.{tops, topOf, slopes, slopeOf, bends, bendOf}
 use Rattle.elementary.specs.Log2.{fallOf, cellOf, fractionOf, joinedOf, logOf, log2Of}
 use Rattle.pitch.specs.Register.{minHz, fullHz}
 

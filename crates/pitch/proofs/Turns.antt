@@ -8,7 +8,7 @@ use mathlib.Core.List.{List, [], _∷_}
 use lib.Dec.{eqb}
 use lib.ListN.{length, set, length-set}
 use lib.Ieee.{Float, le}
-use Rattle.floats.specs.Names.{mul32, nil}
+use Rattle.floats.specs.Names.{mul32, zero32}
 use Rattle.sequences.specs.Pick.{pick, picked, passed, either}
 use Rattle.draws.specs.Draws.{randomOf}
 use Rattle.pitch.specs.Partials.{sumOf, harmonicOf, withoutOf, countOf, drawnFrom}
@@ -19,7 +19,7 @@ count-most draw = either (λ (n : ℕ). n ≤ 3) _ _ _ (omega arith) (either (λ
 
 pub length-without : (weights : List Float) (harmonic : ℕ) → length (withoutOf weights harmonic) ≡ length weights
 unfolding withoutOf
-length-without weights harmonic = either (λ (l : List Float). length l ≡ length weights) (eqb harmonic 0) _ _ refl (length-set weights (harmonic - 1) nil)
+length-without weights harmonic = either (λ (l : List Float). length l ≡ length weights) (eqb harmonic 0) _ _ refl (length-set weights (harmonic - 1) zero32)
 
 -- what is to be answered from the first slot is what is to be answered from this one, with the weights that are left and the harmonics selected so far
 pub record Drawn (index count : ℕ) (weights : List Float) (slot : ℕ) (left : List Float) (selected : List ℕ) : Type 0 where
@@ -42,7 +42,7 @@ drawn-none index count weights h e =
 module _ {index count : ℕ} {weights : List Float} {slot : ℕ} {left : List Float} {selected : List ℕ} (m : Drawn index count weights slot left selected) where
   drawn-turn : slot < count
       → drawnFrom index count 0 weights (0 ∷ 0 ∷ 0 ∷ [])
-      ≡ pick (le (sumOf left) nil) selected
+      ≡ pick (le (sumOf left) zero32) selected
       (drawnFrom index (count - (slot + 1)) (slot + 1) (withoutOf left (harmonicOf left (mul32 (randomOf index (13 + slot)) (sumOf left))))
       (set selected slot (harmonicOf left (mul32 (randomOf index (13 + slot)) (sumOf left)))))
   unfolding drawnFrom
@@ -51,7 +51,7 @@ module _ {index count : ℕ} {weights : List Float} {slot : ℕ} {left : List Fl
       m .is
       ∙ ap (λ (k : ℕ). drawnFrom index k slot left selected) n
       ∙ ap
-      (λ (k : ℕ). pick (le (sumOf left) nil) selected
+      (λ (k : ℕ). pick (le (sumOf left) zero32) selected
       (drawnFrom index (count - (slot + 1)) k (withoutOf left (harmonicOf left (mul32 (randomOf index (13 + slot)) (sumOf left))))
       (set selected slot (harmonicOf left (mul32 (randomOf index (13 + slot)) (sumOf left))))))
       (sym (add-one slot))
@@ -59,13 +59,13 @@ module _ {index count : ℕ} {weights : List Float} {slot : ℕ} {left : List Fl
   pub drawn-more : (total draw : Float) (harmonic : ℕ) (next : List Float)
       → slot < count
       → total ≡ sumOf left
-      → le total nil ≡ false
+      → le total zero32 ≡ false
       → draw ≡ randomOf index (13 + slot)
       → harmonic ≡ harmonicOf left (mul32 draw total)
       → next ≡ withoutOf left harmonic
       → Drawn index count weights (slot + 1) next (set selected slot harmonic)
   drawn-more total draw harmonic next h e t d p q =
-      let u : le (sumOf left) nil ≡ false = rw (← e) t in
+      let u : le (sumOf left) zero32 ≡ false = rw (← e) t in
       let v = drawn-turn h ∙ sym (passed _ _ _ u) in
       record {
         below = omega arith;
@@ -75,8 +75,8 @@ module _ {index count : ℕ} {weights : List Float} {slot : ℕ} {left : List Fl
         is = cc;
       }
 
-  pub drawn-here : (total : Float) → slot < count → total ≡ sumOf left → le total nil ≡ true → selected ≡ drawnFrom index count 0 weights (0 ∷ 0 ∷ 0 ∷ [])
-  drawn-here total h e t = let u : le (sumOf left) nil ≡ true = rw (← e) t in picked _ _ _ u ∙ sym (drawn-turn h)
+  pub drawn-here : (total : Float) → slot < count → total ≡ sumOf left → le total zero32 ≡ true → selected ≡ drawnFrom index count 0 weights (0 ∷ 0 ∷ 0 ∷ [])
+  drawn-here total h e t = let u : le (sumOf left) zero32 ≡ true = rw (← e) t in picked _ _ _ u ∙ sym (drawn-turn h)
 
   pub drawn-all : count ≤ slot → selected ≡ drawnFrom index count 0 weights (0 ∷ 0 ∷ 0 ∷ [])
   unfolding drawnFrom
@@ -87,4 +87,4 @@ pub length-drawn : (index n slot : ℕ) (weights : List Float) (selected : List 
 unfolding drawnFrom
 length-drawn index zero slot weights selected = refl
 length-drawn index (suc n) slot weights selected =
-    either (λ (r : List ℕ). length r ≡ length selected) (le (sumOf weights) nil) _ _ refl (length-drawn index n (suc slot) _ _ ∙ length-set selected slot _)
+    either (λ (r : List ℕ). length r ≡ length selected) (le (sumOf weights) zero32) _ _ refl (length-drawn index n (suc slot) _ _ ∙ length-set selected slot _)

@@ -5,7 +5,7 @@ use native.Mathlib.Omega.{arith}
 use native.Mathlib.Numerals.{add-one}
 use mathlib.Core.Bool.{true, false}
 use lib.Ieee.{Float, lt}
-use Rattle.floats.specs.Names.{sub32, nil}
+use Rattle.floats.specs.Names.{sub32, zero32}
 use Rattle.sequences.specs.Pick.{pick, picked, passed}
 use Rattle.pitch.specs.Octave.{chosenFrom}
 
@@ -19,19 +19,19 @@ chosen-none weight last count target = record { below = omega arith; is = ap (λ
 
 module _ {weight : ℕ → Float} {last count : ℕ} {target : Float} {i : ℕ} {left : Float} (m : Chosen weight last count target i left) where
   chosen-turn : (r : Float) → i < count → r ≡ sub32 left (weight i)
-      → chosenFrom weight last count 0 target ≡ pick (lt r nil) i (chosenFrom weight last (count - (i + 1)) (i + 1) r)
+      → chosenFrom weight last count 0 target ≡ pick (lt r zero32) i (chosenFrom weight last (count - (i + 1)) (i + 1) r)
   unfolding chosenFrom
   chosen-turn r h e =
       let n : count - i ≡ suc (count - (i + 1)) = omega arith in
       m .is
       ∙ ap (λ (k : ℕ). chosenFrom weight last k i left) n
-      ∙ ap (λ (k : ℕ). pick (lt (sub32 left (weight i)) nil) i (chosenFrom weight last (count - (i + 1)) k (sub32 left (weight i)))) (sym (add-one i))
-      ∙ ap (λ (z : Float). pick (lt z nil) i (chosenFrom weight last (count - (i + 1)) (i + 1) z)) (sym e)
+      ∙ ap (λ (k : ℕ). pick (lt (sub32 left (weight i)) zero32) i (chosenFrom weight last (count - (i + 1)) k (sub32 left (weight i)))) (sym (add-one i))
+      ∙ ap (λ (z : Float). pick (lt z zero32) i (chosenFrom weight last (count - (i + 1)) (i + 1) z)) (sym e)
 
-  pub chosen-here : (r : Float) → i < count → r ≡ sub32 left (weight i) → lt r nil ≡ true → i ≡ chosenFrom weight last count 0 target
+  pub chosen-here : (r : Float) → i < count → r ≡ sub32 left (weight i) → lt r zero32 ≡ true → i ≡ chosenFrom weight last count 0 target
   chosen-here r h e t = picked _ _ _ t ∙ sym (chosen-turn r h e)
 
-  pub chosen-more : (r : Float) → i < count → r ≡ sub32 left (weight i) → lt r nil ≡ false → Chosen weight last count target (i + 1) r
+  pub chosen-more : (r : Float) → i < count → r ≡ sub32 left (weight i) → lt r zero32 ≡ false → Chosen weight last count target (i + 1) r
   chosen-more r h e t = record { below = omega arith; is = chosen-turn r h e ∙ sym (passed _ _ _ t) }
 
   pub chosen-end : i ≡ count → last ≡ chosenFrom weight last count 0 target

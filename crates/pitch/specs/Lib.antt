@@ -1,3 +1,4 @@
+pub mod Highest
 pub mod Cloud
 pub mod Partials
 pub mod Octave

@@ -6,16 +6,15 @@ use lib.Dec.{eqb}
 use lib.Ieee.{Float, binary32, toUnsigned, lt}
 use Rattle.sequences.specs.Pick.{pick}
 use Rattle.sequences.specs.Times.{times}
-use Rattle.floats.specs.Names.{f32, add32, sub32, mul32, div32, nil, half, one, asFloat}
+use Rattle.floats.specs.Names.{f32, add32, sub32, mul32, div32, zero32, half, one, asFloat, minusZero32}
 use Rattle.floats.specs.Choose.{min}
 use Rattle.floats.specs.Whole.{floor, ceil}
 use Rattle.draws.specs.Draws.{randomOf}
 use Rattle.elementary.specs.Log2.{log2Of}
 use Rattle.settings.specs.declared.Direction.{Direction}
 use Rattle.settings.specs.declared.Direction.the-variants.{Forward, Reverse, Alternate}
-use Rattle.pitch.specs.Partials.{minusNil}
 use Rattle.pitch.specs.declared.octaves.Register.{Register}
-use Rattle.pitch.specs.Register.{minHz, strengthOf, probabilityOf}
+use Rattle.pitch.specs.Register.{minHz, registerStrength, probabilityOf}
 
 -- index & 1 == 0 where the direction alternates
 unfoldable pub upwardOf : Direction → ℕ → Bool
@@ -41,12 +40,12 @@ weightOf low span upward i = mul32 (probabilityOf (add32 low (asFloat i))) (tilt
 
 -- (0..count).map(weight).sum()
 unfoldable pub totalOf : Float → Float → Bool → ℕ → Float
-totalOf low span upward count = times (λ i s. add32 s (weightOf low span upward i)) count minusNil
+totalOf low span upward count = times (λ i s. add32 s (weightOf low span upward i)) count minusZero32
 
 -- for i in .. { target -= weight(i); if target < 0.0 { chosen = i; break; } }, over the n octaves from i on
 unfoldable pub chosenFrom : (ℕ → Float) → ℕ → ℕ → ℕ → Float → ℕ
 chosenFrom weight last zero i target = last
-chosenFrom weight last (suc n) i target = let left = sub32 target (weight i) in pick (lt left nil) i (chosenFrom weight last n (suc i) left)
+chosenFrom weight last (suc n) i target = let left = sub32 target (weight i) in pick (lt left zero32) i (chosenFrom weight last n (suc i) left)
 
 -- the walk from the first octave; where none takes the target below 0, the last one
 unfoldable pub chosenOf : Float → Float → Bool → ℕ → Float → ℕ
@@ -82,4 +81,4 @@ unfoldable pub registerOf : ℕ → Float → Float → Direction → Register
 registerOf index rootHz maxHz direction =
     let rootLog = log2Of rootHz in
     let o = octaveOf index rootLog (upperOf maxHz) (upwardOf direction index) in
-    record { octave = o; strength = strengthOf (add32 rootLog o) }
+    record { octave = o; strength = registerStrength (add32 rootLog o) }

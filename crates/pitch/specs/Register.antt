@@ -1,6 +1,6 @@
 -- How a register counts by its height, line by line as the Rust. Definitions only.
 use lib.Ieee.{Float}
-use Rattle.floats.specs.Names.{f32, add32, sub32, mul32, div32, nil, one}
+use Rattle.floats.specs.Names.{f32, add32, sub32, mul32, div32, zero32, one}
 use Rattle.floats.specs.Choose.{clamp}
 use Rattle.elementary.specs.Log2.{log2Of}
 
@@ -20,11 +20,11 @@ lowProbability = f32 0x3e19999a
 
 -- ((log_hz - PARTICLE_MIN_HZ.log2()) / (PARTICLE_FULL_OPENING_HZ / PARTICLE_MIN_HZ).log2()).clamp(0.0, 1.0)
 unfoldable pub heightOf : Float → Float
-heightOf logHz = clamp (div32 (sub32 logHz (log2Of minHz)) (log2Of (div32 fullHz minHz))) nil one
+heightOf logHz = clamp (div32 (sub32 logHz (log2Of minHz)) (log2Of (div32 fullHz minHz))) zero32 one
 
 -- PARTICLE_LOW_OPENING + (1.0 - PARTICLE_LOW_OPENING) * height * height
-unfoldable pub strengthOf : Float → Float
-strengthOf logHz =
+unfoldable pub registerStrength : Float → Float
+registerStrength logHz =
     let height = heightOf logHz in
     add32 lowOpening (mul32 (mul32 (sub32 one lowOpening) height) height)
 

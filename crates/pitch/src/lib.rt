@@ -1,5 +1,8 @@
 // Where a new particle sounds: how often and how strongly a register is chosen, the free Cloud's
 // frequency, Sprinkle's octave, and the harmonics of one particle.
+ghost use mathlib.Core.Path.{_≡_};
+ghost use Rattle.pitch.specs.Highest.{maxHzOf};
+
 mod cloud;
 mod harmonics;
 mod octaves;
@@ -13,4 +16,9 @@ pub use registers::register_height;
 pub use registers::register_probability;
 pub use registers::register_strength;
 
-pub const WINDOWS_PER_PARTICLE: usize = 3;
+// Nothing sounds from here up.
+pub fn max_hz(sample_rate: f64) -> f32
+    ensures { λ r. ⌜ r ≡ maxHzOf «sample_rate» ⌝ }
+{
+    floats::min32(floats::f64_to_f32(sample_rate) * 0.5, 20000.0)
+}

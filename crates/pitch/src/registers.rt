@@ -1,16 +1,11 @@
 // How a register counts by its height between 20 and 440 Hz, on a scale of octaves. Low ones are
 // weighed down, never cut off.
 ghost use mathlib.Core.Path.{_≡_};
-ghost use Rattle.pitch.specs.Register.{heightOf, strengthOf, probabilityOf};
-
-// An audible range, so that low registers remain possible.
-pub const PARTICLE_MIN_HZ: f32 = 20.0;
+ghost use Rattle.pitch.specs.Register.{heightOf, registerStrength, probabilityOf};
 
 pub const PARTICLE_LOW_OPENING: f32 = 0.1;
 
 pub const PARTICLE_LOW_PROBABILITY: f32 = 0.15;
-
-pub const PARTICLE_FULL_OPENING_HZ: f32 = 440.0;
 
 // log2 of 20, and of 440 / 20 = 22: what `elementary::log2` gives.
 pub const LOG_OF_MIN_HZ: f32 = 4.321928;
@@ -24,7 +19,7 @@ pub fn register_height(log_hz: f32) -> f32
 }
 
 pub fn register_strength(log_hz: f32) -> f32
-    ensures { λ r. ⌜ r ≡ strengthOf «log_hz» ⌝ }
+    ensures { λ r. ⌜ r ≡ registerStrength «log_hz» ⌝ }
 {
     let height = register_height(log_hz);
     PARTICLE_LOW_OPENING + (1.0 - PARTICLE_LOW_OPENING) * height * height

@@ -11,7 +11,7 @@ use lib.Ieee.Fits.{add-fits, sub-fits}
 use lib.Ieee.Scale.{finite}
 use denote.Floats.{passes}
 use Rattle.sequences.specs.Pick.{pick, by-case}
-use Rattle.floats.specs.Names.{f32, add32, sub32, mul32, nil, two}
+use Rattle.floats.specs.Names.{f32, add32, sub32, mul32, zero32, two}
 use Rattle.floats_laws.proofs.Bounds.{add-mag, sub-mag, mul-mag, div-mag}
 use Rattle.floats_laws.proofs.Mag.{Mag, Upto, Least, le-upto, least-up, mag-le, mag-finite, mag-more, upto-mag}
 use Rattle.floats_laws.proofs.Products.{product-from-zero}
@@ -19,7 +19,7 @@ use Rattle.floats_laws.proofs.Rising.{nought, add-rises-right, neg-falls, sub-r
 use Rattle.floats_laws.proofs.Rules.{add-number, between-finite, finite-number, le-left, le-right, le-trans, lt→le}
 use Rattle.floats_laws.proofs.Spans.{lt-le}
 use Rattle.draws.specs.Draws.{randomOf}
-use Rattle.draws.proofs.Unit.{random-in}
+use Rattle.draws.proofs.Drawn.{random-in}
 use Rattle.elementary.specs.Log2.{log2Of}
 use Rattle.powers.specs.Power.{exp2}
 use Rattle.elementary.specs.Sqrt.{sqrtOf}
@@ -59,9 +59,9 @@ module _ (maxHz : Float) (f : T (fits binary32 maxHz)) (a : T (le leastHz maxHz)
   less-ramp x u = add-number binary32 x (neg ramp) u (looked .ramp-turned)
 
   -- the range goes on past the ramp
-  pub rest-from : T (le nil rest)
+  pub rest-from : T (le zero32 rest)
   rest-from =
-      le-trans binary32 nil (f32 0x404bcd9c) rest (ofBits-fits binary32 0) (ofBits-fits binary32 0x404bcd9c) (sub-fits binary32 octaves ramp) (looked .rest-from)
+      le-trans binary32 zero32 (f32 0x404bcd9c) rest (ofBits-fits binary32 0) (ofBits-fits binary32 0x404bcd9c) (sub-fits binary32 octaves ramp) (looked .rest-from)
       (subst (λ (z : Float). T (le z rest)) least-rest (sub-rises binary32 (f32 0x40f49a78) octaves ramp octaves-from (less-ramp (f32 0x40f49a78) (le-left (f32 0x40f49a78) octaves octaves-from)) (less-ramp octaves (le-right (f32 0x40f49a78) octaves octaves-from))))
 
   -- ---- the target, where the upper frequency is at most 20,000 Hz
@@ -102,7 +102,7 @@ module _ (maxHz : Float) (f : T (fits binary32 maxHz)) (a : T (le leastHz maxHz)
     whole-from =
         let n = finite-number binary32 mass (looked .mass-finite) in
         le-trans binary32 nought mass whole tt (ofBits-fits binary32 0x40241b6a) (add-fits binary32 mass rest) (looked .mass-from)
-        (subst (λ (z : Float). T (le z whole)) (looked .mass-alone) (add-rises-right binary32 mass nil rest rest-from (add-number binary32 mass nil n (looked .nil-finite)) (add-number binary32 mass rest n (mag-finite rest 15 rest-mag))))
+        (subst (λ (z : Float). T (le z whole)) (looked .mass-alone) (add-rises-right binary32 mass zero32 rest rest-from (add-number binary32 mass zero32 n (looked .nil-finite)) (add-number binary32 mass rest n (mag-finite rest 15 rest-mag))))
 
     module _ (index : ℕ) where
       abbrev draw : Float

@@ -20,7 +20,7 @@ use Rattle.floats_laws.proofs.Casting.{whole-rises}
 use Rattle.floats_laws.proofs.Keys.{key, le-key, lt-key}
 use Rattle.floats_laws.proofs.Rules.{le-right, le-trans}
 use Rattle.draws.specs.Draws.{randomOf}
-use Rattle.floats.specs.Names.{nil, one, asFloat}
+use Rattle.floats.specs.Names.{zero32, one, asFloat}
 use Rattle.pitch.specs.Partials.{countOf, keptOf, allowedOf, drawnOf, partialsOf}
 use Rattle.pitch_laws.proofs.Picks.{Drawable, Chosen, chosen-drawn, nil-gone}
 use Rattle.pitch.proofs.Turns.{count-most, length-drawn}
@@ -30,7 +30,7 @@ pub record Lawful (limit : ℕ) (ratio : Float) (weights : List Float) (p : ℕ)
   pub most : p ≤ 24
   pub within : p ≤ limit
   pub below : le ratio (asFloat p) ≡ false
-  pub heavy : le (getD weights (p - 1) nan) nil ≡ false
+  pub heavy : le (getD weights (p - 1) nan) zero32 ≡ false
 
 pub record Picks (limit : ℕ) (ratio : Float) (weights : List Float) (picks : List ℕ) : Type 0 where
   pub three : length picks ≡ 3
@@ -38,7 +38,7 @@ pub record Picks (limit : ℕ) (ratio : Float) (weights : List Float) (picks : L
   pub apart : (k l : ℕ) → (k ≡ l → ⊥) → 0 < getD picks k 0 → getD picks k 0 ≡ getD picks l 0 → ⊥
 
 -- ---- what is left of the weights says all but the draws
-kept-heavy : (limit : ℕ) (ratio : Float) (i : ℕ) (w : Float) → le (keptOf limit ratio i w) nil ≡ false → (i < limit) × (le ratio (asFloat (i + 1)) ≡ false) × (le w nil ≡ false)
+kept-heavy : (limit : ℕ) (ratio : Float) (i : ℕ) (w : Float) → le (keptOf limit ratio i w) zero32 ≡ false → (i < limit) × (le ratio (asFloat (i + 1)) ≡ false) × (le w zero32 ≡ false)
 unfolding keptOf pick
 kept-heavy limit ratio i w h =
     by-case (leb limit i) (λ q. absurd (true≢false (sym nil-gone ∙ (rw q at h))))
@@ -53,8 +53,8 @@ lawful limit ratio weights (suc i) d =
     let l : suc i ≤ 24 = subst (λ (n : ℕ). suc i ≤ n) (length-table 24 g) (d .to) in
     let e : suc i - 1 ≡ i = omega arith in
     let f : i + 1 ≡ suc i = omega arith in
-    let k = kept-heavy limit ratio i (getD weights i nan) (ap (λ (w : Float). le w nil) (sym (table-at 24 g i nan l) ∙ ap (λ (j : ℕ). getD (table 24 g) j nan) (sym e)) ∙ d .heavy) in
-    record { most = l; within = k .0; below = ap (λ (n : ℕ). le ratio (asFloat n)) (sym f) ∙ k .1; heavy = ap (λ (j : ℕ). le (getD weights j nan) nil) e ∙ k .2 }
+    let k = kept-heavy limit ratio i (getD weights i nan) (ap (λ (w : Float). le w zero32) (sym (table-at 24 g i nan l) ∙ ap (λ (j : ℕ). getD (table 24 g) j nan) (sym e)) ∙ d .heavy) in
+    record { most = l; within = k .0; below = ap (λ (n : ℕ). le ratio (asFloat n)) (sym f) ∙ k .1; heavy = ap (λ (j : ℕ). le (getD weights j nan) zero32) e ∙ k .2 }
 
 nothing-yet : (k : ℕ) → getD {A = ℕ} (0 ∷ 0 ∷ 0 ∷ []) k 0 ≡ 0
 nothing-yet zero = refl
@@ -90,7 +90,7 @@ none-lawful limit ratio weights picks c none =
     ext-getD 0 picks (0 ∷ 0 ∷ 0 ∷ []) (c .three) (λ k l. by-case (ltb 0 (getD picks k 0)) (λ q. let p = ltb-true 0 (getD picks k 0) q in absurd (none (getD picks k 0) p (c .each k p))) (λ q. let z = ltb-false 0 (getD picks k 0) q in omega (arith, nothing-yet k)))
 
 -- no weight above 0
-pub no-weight : (index : ℕ) (weights : List Float) (limit : ℕ) (ratio : Float) → ((j : ℕ) → j < 24 → le (getD weights j nan) nil ≡ true) → partialsOf index weights limit ratio ≡ 0 ∷ 0 ∷ 0 ∷ []
+pub no-weight : (index : ℕ) (weights : List Float) (limit : ℕ) (ratio : Float) → ((j : ℕ) → j < 24 → le (getD weights j nan) zero32 ≡ true) → partialsOf index weights limit ratio ≡ 0 ∷ 0 ∷ 0 ∷ []
 no-weight index weights limit ratio h =
     none-lawful limit ratio weights _ (picks-lawful index weights limit ratio) (λ p g c. true≢false (sym (h (p - 1) (omega (arith, c .most))) ∙ c .heavy))
 

@@ -14,14 +14,14 @@ use lib.Ieee.Fits.{add-fits}
 use lib.Ieee.Exact.{HasValue}
 use lib.Ieee.Scale.{finite}
 use Rattle.sequences.specs.Pick.{by-case, either}
-use Rattle.floats.specs.Names.{add32, sub32, nil, one, asFloat}
+use Rattle.floats.specs.Names.{add32, sub32, zero32, one, asFloat}
 use Rattle.floats.specs.Whole.{floor}
 use Rattle.floats_laws.proofs.Ends.{mag-between}
 use Rattle.floats_laws.proofs.Mag.{Mag}
 use Rattle.floats_laws.proofs.Rising.{nought}
 use Rattle.floats_laws.proofs.Rules.{le-trans as float-trans}
 use Rattle.elementary.specs.Rung.{rungOf, digitsOf}
-use Rattle.elementary.specs.Parabolas.{tops, topOf, slopes, slopeOf, bends, bendOf}
+use Rattle.elementary.specs.LogCells.{tops, topOf, slopes, slopeOf, bends, bendOf}
 use Rattle.elementary.specs.Log2.{fallOf, cellOf, fractionOf, joinedOf, logOf, log2Of}
 use Rattle.floats_laws.proofs.Spans.{lt-le}
 use Rattle.elementary_laws.proofs.LogExact.{log2-fits}
@@ -80,7 +80,7 @@ chosen-most : (weight : ℕ → Float) (last n i : ℕ) (t : Float) → i + n �
 unfolding chosenFrom
 chosen-most weight last zero i t h = omega arith
 chosen-most weight last (suc n) i t h =
-    either (λ (r : ℕ). r ≤ last) (lt (sub32 t (weight i)) nil) i _ (omega arith) (chosen-most weight last n (suc i) (sub32 t (weight i)) (omega arith))
+    either (λ (r : ℕ). r ≤ last) (lt (sub32 t (weight i)) zero32) i _ (omega arith) (chosen-most weight last n (suc i) (sub32 t (weight i)) (omega arith))
 
 last-is : (n : ℕ) → n ≤ 4000 → lastOf (n + 1) ≡ n
 unfolding lastOf

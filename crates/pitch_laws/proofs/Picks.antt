@@ -10,7 +10,7 @@ use lib.Dec.{eqb}
 use lib.ListN.{length, getD, set, length-set}
 use lib.Seq.{getD-set-same, getD-set-other}
 use lib.Ieee.{Float, nan, lt, le, eq, ofBits, ofFields, odd}
-use Rattle.floats.specs.Names.{sub32, mul32, nil}
+use Rattle.floats.specs.Names.{sub32, mul32, zero32}
 use Rattle.sequences.specs.Pick.{pick, by-case}
 use Rattle.draws.specs.Draws.{randomOf}
 use Rattle.pitch.specs.Partials.{sumOf, harmonicFrom, harmonicOf, withoutOf, drawnFrom}
@@ -20,14 +20,14 @@ use Rattle.pitch.proofs.Turns.{length-without}
 pub record Drawable (ws : List Float) (p : ℕ) : Type 0 where
   pub from : 0 < p
   pub to : p ≤ length ws
-  pub heavy : le (getD ws (p - 1) nan) nil ≡ false
+  pub heavy : le (getD ws (p - 1) nan) zero32 ≡ false
 
 -- ---- one walk gives a harmonic that can be drawn, or what it began with
 record Found (i : ℕ) (ws : List Float) (h : ℕ) : Type 0 where
   j : ℕ
   inside : j < length ws
   is : h ≡ i + j + 1
-  heavy : le (getD ws j nan) nil ≡ false
+  heavy : le (getD ws j nan) zero32 ≡ false
 
 later : {i : ℕ} {w : Float} {ws : List Float} {h : ℕ} → Found (suc i) ws h → Found i (w ∷ ws) h
 later f = record { j = suc (f .j); inside = omega (arith, f .inside); is = omega (arith, f .is); heavy = f .heavy }
@@ -36,7 +36,7 @@ harmonic-found : (i : ℕ) (ws : List Float) (t : Float) (c : ℕ) → (harmonic
 unfolding harmonicFrom pick
 harmonic-found i [] t c = inl refl
 harmonic-found i (w ∷ ws) t c =
-    by-case (le w nil) (λ q. rw q (⊎-elim (λ e. inl e) (λ f. inr (later f)) (harmonic-found (suc i) ws t c)))
+    by-case (le w zero32) (λ q. rw q (⊎-elim (λ e. inl e) (λ f. inr (later f)) (harmonic-found (suc i) ws t c)))
     (λ q.
     rw q
     (by-case (lt t w) (λ s. rw s (inr (record { j = 0; inside = omega arith; is = omega arith; heavy = q })))
@@ -53,23 +53,23 @@ harmonic-drawable ws t = ⊎-elim (λ e. inl e) (λ f. inr (drawable f)) (harmon
         record {
           from = omega (arith, f .is);
           to = omega (arith, f .is, f .inside);
-          heavy = ap (λ (k : ℕ). le (getD ws k nan) nil) (omega (arith, f .is)) ∙ f .heavy;
+          heavy = ap (λ (k : ℕ). le (getD ws k nan) zero32) (omega (arith, f .is)) ∙ f .heavy;
         }
 
 -- ---- where no weight is above what is left of the target, the last that can be drawn is the answer
 unfoldable pub unstopped : List Float → Float → Bool
 unstopped [] t = true
-unstopped (w ∷ ws) t = pick (le w nil) (unstopped ws t) (pick (lt t w) false (unstopped ws (sub32 t w)))
+unstopped (w ∷ ws) t = pick (le w zero32) (unstopped ws t) (pick (lt t w) false (unstopped ws (sub32 t w)))
 
 unfoldable pub lastHeavy : ℕ → List Float → ℕ → ℕ
 lastHeavy i [] c = c
-lastHeavy i (w ∷ ws) c = lastHeavy (suc i) ws (pick (le w nil) c (i + 1))
+lastHeavy i (w ∷ ws) c = lastHeavy (suc i) ws (pick (le w zero32) c (i + 1))
 
 last-from : (i : ℕ) (ws : List Float) (t : Float) (c : ℕ) → unstopped ws t ≡ true → harmonicFrom i ws (t, c) ≡ lastHeavy i ws c
 unfolding harmonicFrom unstopped lastHeavy pick
 last-from i [] t c h = refl
 last-from i (w ∷ ws) t c h =
-    by-case (le w nil) (λ q. rw q (last-from (suc i) ws t c (rw q at h)))
+    by-case (le w zero32) (λ q. rw q (last-from (suc i) ws t c (rw q at h)))
     (λ q. by-case (lt t w) (λ s. absurd (true≢false (sym (rw (q, s) at h)))) (λ s. rw (q, s) (last-from (suc i) ws (sub32 t w) (i + 1) (rw (q, s) at h))))
 
 pub last-of-the-walk : (ws : List Float) (t : Float) → unstopped ws t ≡ true → harmonicOf ws t ≡ lastHeavy 0 ws 0
@@ -79,25 +79,25 @@ last-of-the-walk ws t h = last-from 0 ws t 0 h
 -- ---- slot by slot: `start` are the weights at first, ws those that are left
 pub record Chosen (start ws : List Float) (selected : List ℕ) : Type 0 where
   pub long : length ws ≡ length start
-  pub still : (j : ℕ) → le (getD ws j nan) nil ≡ false → le (getD start j nan) nil ≡ false
+  pub still : (j : ℕ) → le (getD ws j nan) zero32 ≡ false → le (getD start j nan) zero32 ≡ false
   pub each : (k : ℕ) → 0 < getD selected k 0 → Drawable start (getD selected k 0)
-  pub gone : (k : ℕ) → 0 < getD selected k 0 → le (getD ws (getD selected k 0 - 1) nan) nil ≡ true
+  pub gone : (k : ℕ) → 0 < getD selected k 0 → le (getD ws (getD selected k 0 - 1) nan) zero32 ≡ true
   pub apart : (k l : ℕ) → (k ≡ l → ⊥) → 0 < getD selected k 0 → getD selected k 0 ≡ getD selected l 0 → ⊥
 
-pub nil-gone : le nil nil ≡ true
+pub nil-gone : le zero32 zero32 ≡ true
 unfolding le lt eq ofBits ofFields odd
 nil-gone = refl
 
 -- the weights after a draw: as they were, or gone
-kept-or-gone : (ws : List Float) (h j : ℕ) → h ≤ length ws → (getD (withoutOf ws h) j nan ≡ getD ws j nan) ⊎ (le (getD (withoutOf ws h) j nan) nil ≡ true)
+kept-or-gone : (ws : List Float) (h j : ℕ) → h ≤ length ws → (getD (withoutOf ws h) j nan ≡ getD ws j nan) ⊎ (le (getD (withoutOf ws h) j nan) zero32 ≡ true)
 unfolding withoutOf pick
 kept-or-gone ws h j l =
     by-case (eqb h 0) (λ z. rw z (inl refl))
     (λ z.
     rw z
     (by-case (eqb j (h - 1))
-    (λ q. let n = eqb-false h 0 z in inr (ap (λ (w : Float). le w nil) (ap (λ (k : ℕ). getD (set ws (h - 1) nil) k nan) (eqb-true j (h - 1) q) ∙ getD-set-same ws (h - 1) nil nan (below n)) ∙ nil-gone))
-    (λ q. inl (getD-set-other ws (h - 1) j nil nan (eqb-false j (h - 1) q)))))
+    (λ q. let n = eqb-false h 0 z in inr (ap (λ (w : Float). le w zero32) (ap (λ (k : ℕ). getD (set ws (h - 1) zero32) k nan) (eqb-true j (h - 1) q) ∙ getD-set-same ws (h - 1) zero32 nan (below n)) ∙ nil-gone))
+    (λ q. inl (getD-set-other ws (h - 1) j zero32 nan (eqb-false j (h - 1) q)))))
   where
     below : (h ≡ 0 → ⊥) → h - 1 < length ws
     below n = by-case (eqb h 0) (λ q. absurd (n (eqb-true h 0 q))) (λ q. positive h l n)
@@ -106,9 +106,9 @@ kept-or-gone ws h j l =
         positive zero l n = absurd (n refl)
         positive (suc h) l n = omega arith
 
-drawn-gone : (ws : List Float) (h : ℕ) → h ≤ length ws → 0 < h → le (getD (withoutOf ws h) (h - 1) nan) nil ≡ true
+drawn-gone : (ws : List Float) (h : ℕ) → h ≤ length ws → 0 < h → le (getD (withoutOf ws h) (h - 1) nan) zero32 ≡ true
 unfolding withoutOf pick
-drawn-gone ws h l p = rw (ne-eqb h 0 (λ e. omega arith), getD-set-same ws (h - 1) nil nan (omega arith)) nil-gone
+drawn-gone ws h l p = rw (ne-eqb h 0 (λ e. omega arith), getD-set-same ws (h - 1) zero32 nan (omega arith)) nil-gone
 
 module _ {start ws : List Float} {selected : List ℕ} (m : Chosen start ws selected) (slot h : ℕ) (inside : slot < length selected) (few : h ≤ length ws) (d : 0 < h → Drawable ws h) where
   abbrev next : List Float
@@ -123,19 +123,19 @@ module _ {start ws : List Float} {selected : List ℕ} (m : Chosen start ws sele
       (λ q. let e = eqb-true k slot q in inl (e, ap (λ (z : ℕ). getD more z 0) e ∙ getD-set-same selected slot h 0 inside))
       (λ q. inr (getD-set-other selected slot k h 0 (eqb-false k slot q)))
 
-  still-there : (j : ℕ) → le (getD next j nan) nil ≡ false → le (getD start j nan) nil ≡ false
+  still-there : (j : ℕ) → le (getD next j nan) zero32 ≡ false → le (getD start j nan) zero32 ≡ false
   still-there j e =
-      ⊎-elim (λ s. m .still j (ap (λ (w : Float). le w nil) (sym s) ∙ e)) (λ g. absurd (true≢false (sym g ∙ e))) (kept-or-gone ws h j few)
+      ⊎-elim (λ s. m .still j (ap (λ (w : Float). le w zero32) (sym s) ∙ e)) (λ g. absurd (true≢false (sym g ∙ e))) (kept-or-gone ws h j few)
 
-  stays-gone : (j : ℕ) → le (getD ws j nan) nil ≡ true → le (getD next j nan) nil ≡ true
-  stays-gone j e = ⊎-elim (λ s. ap (λ (w : Float). le w nil) s ∙ e) (λ g. g) (kept-or-gone ws h j few)
+  stays-gone : (j : ℕ) → le (getD ws j nan) zero32 ≡ true → le (getD next j nan) zero32 ≡ true
+  stays-gone j e = ⊎-elim (λ s. ap (λ (w : Float). le w zero32) s ∙ e) (λ g. g) (kept-or-gone ws h j few)
 
   now-drawn : 0 < h → Drawable start h
   now-drawn p = record { from = p; to = omega (arith, m .long); heavy = m .still (h - 1) (d p .heavy) }
 
   -- none that was drawn before has a weight left
   fresh : (k : ℕ) → 0 < h → getD selected k 0 ≡ h → ⊥
-  fresh k p e = true≢false (sym (ap (λ (z : ℕ). le (getD ws (z - 1) nan) nil) (sym e) ∙ m .gone k (omega arith)) ∙ d p .heavy)
+  fresh k p e = true≢false (sym (ap (λ (z : ℕ). le (getD ws (z - 1) nan) zero32) (sym e) ∙ m .gone k (omega arith)) ∙ d p .heavy)
 
   pub chosen-next : Chosen start next more
   chosen-next =
@@ -146,8 +146,8 @@ module _ {start ws : List Float} {selected : List ℕ} (m : Chosen start ws sele
             λ k p. ⊎-elim (λ w. subst (Drawable start) (sym (w .1)) (now-drawn (omega arith))) (λ e. subst (Drawable start) (sym e) (m .each k (omega arith))) (at k);
         gone =
             λ k p.
-            ⊎-elim (λ w. ap (λ (z : ℕ). le (getD next (z - 1) nan) nil) (w .1) ∙ drawn-gone ws h few (omega arith))
-            (λ e. ap (λ (z : ℕ). le (getD next (z - 1) nan) nil) e ∙ stays-gone (getD selected k 0 - 1) (m .gone k (omega arith))) (at k);
+            ⊎-elim (λ w. ap (λ (z : ℕ). le (getD next (z - 1) nan) zero32) (w .1) ∙ drawn-gone ws h few (omega arith))
+            (λ e. ap (λ (z : ℕ). le (getD next (z - 1) nan) zero32) e ∙ stays-gone (getD selected k 0 - 1) (m .gone k (omega arith))) (at k);
         apart =
             λ k l n p e.
             ⊎-elim (λ w. ⊎-elim (λ v. n (w .0 ∙ sym (v .0))) (λ f. fresh l (omega arith) (sym f ∙ sym e ∙ w .1)) (at l))
@@ -160,7 +160,7 @@ pub chosen-drawn : (index n slot : ℕ) (start ws : List Float) (selected : List
 unfolding drawnFrom pick
 chosen-drawn index zero slot start ws selected l m = (ws, m)
 chosen-drawn index (suc n) slot start ws selected l m =
-    by-case (le (sumOf ws) nil) (λ q. rw q (ws, m))
+    by-case (le (sumOf ws) zero32) (λ q. rw q (ws, m))
     (λ q.
     rw q
     (chosen-drawn index n (suc slot) start (withoutOf ws harmonic) (set selected slot harmonic) (omega (arith, length-set selected slot harmonic)) (chosen-next m slot harmonic (omega arith) few drawable)))

@@ -4,10 +4,10 @@ use lib.Count.{leadingZeros, trailingZeros}
 use lib.Dec.{T}
 use lib.Ieee.{Float, isNan, lt, le, eq, toBits, round, sum, add, sub, neg, mul, div, ofInt, ofBits, ofFields, size, span, climb, units, odd}
 use lib.Ieee.Scale.{finite}
-use Rattle.floats.specs.Names.{f32, add32, sub32, mul32, nil, half, two}
+use Rattle.floats.specs.Names.{f32, add32, sub32, mul32, zero32, half, two}
 use Rattle.floats_laws.proofs.Rising.{nought}
 use Rattle.elementary.specs.Rung.{rungOf, digitsOf}
-use Rattle.elementary.specs.Parabolas.{tops, topOf, slopes, slopeOf, bends, bendOf}
+use Rattle.elementary.specs.LogCells.{tops, topOf, slopes, slopeOf, bends, bendOf}
 use Rattle.elementary.specs.Log2.{fallOf, cellOf, fractionOf, joinedOf, logOf, log2Of}
 use Rattle.elementary_laws.proofs.RootRises.{lowest, lowest-root}
 use Rattle.pitch.specs.Register.{minHz, lowProbability}
@@ -84,12 +84,12 @@ pub record Looked : Type 0 where
   pub low-turned : T (finite (neg low))
   pub span-from : T (le nought (f32 0x40f49a78))
   pub ramp-turned : T (finite (neg ramp))
-  pub rest-from : T (le nil (f32 0x404bcd9c))
+  pub rest-from : T (le zero32 (f32 0x404bcd9c))
   pub ramp-below : T (lt ramp (f32 0x40f49a78))
   pub mass-from : T (le nought mass)
   pub mass-finite : T (finite mass)
-  pub mass-alone : add32 mass nil ≡ mass
-  pub nil-finite : T (finite nil)
+  pub mass-alone : add32 mass zero32 ≡ mass
+  pub nil-finite : T (finite zero32)
   pub double-finite : T (finite (f32 0x3ec32e8c))
   pub double-from : T (le nought (f32 0x3ec32e8c))
   pub square-finite : T (finite (f32 0x3cb851ec))

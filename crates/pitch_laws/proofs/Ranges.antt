@@ -7,15 +7,15 @@ use lib.Ieee.Bits.{ofBits-fits}
 use lib.Ieee.Fits.{mul-fits, div-fits}
 use lib.Ieee.Scale.{finite}
 use lib.Count.{leadingZeros, trailingZeros}
-use Rattle.floats.specs.Names.{f32, add32, sub32, mul32, div32, nil, one}
+use Rattle.floats.specs.Names.{f32, add32, sub32, mul32, div32, zero32, one}
 use Rattle.floats.specs.Choose.{clamp}
-use Rattle.floats_laws.proofs.Choosing.{clamp-fits, clamp-least, clamp-most}
+use Rattle.floats_laws.proofs.Choosing.{clamp-least, clamp-most}
 use Rattle.floats_laws.proofs.Numbers.{mul-number, div-number}
 use Rattle.floats_laws.proofs.Rising.{nought, add-rises-right, mul-rises}
 use Rattle.floats_laws.proofs.Rules.{add-number, between-finite, finite-number, le-trans}
 use Rattle.pitch.proofs.Logs.{log-of-min, log-of-range}
 use Rattle.floats_laws.proofs.Products.{product-from-zero, mul-rises-right}
-use Rattle.pitch.specs.Register.{lowOpening, lowProbability, heightOf, strengthOf, probabilityOf}
+use Rattle.pitch.specs.Register.{lowOpening, lowProbability, heightOf, registerStrength, probabilityOf}
 
 -- what is between two floats, ends included
 abbrev pub Between : Float → Float → Float → Type 0
@@ -35,28 +35,25 @@ placed-number : (l : Float) → T (not (isNan l)) → T (not (isNan (placed l)))
 unfolding sub neg ofBits ofFields odd
 placed-number l h = over-range (sub32 l (f32 0x408a4d3c)) (add-number binary32 l (neg (f32 0x408a4d3c)) h tt)
 
-unit : T (le nil one)
+unit : T (le zero32 one)
 unfolding le lt eq ofBits ofFields odd
 unit = tt
 
-height-is : (l : Float) → heightOf l ≡ clamp (placed l) nil one
+height-is : (l : Float) → heightOf l ≡ clamp (placed l) zero32 one
 unfolding heightOf
 height-is l = rw (log-of-min, log-of-range)
 
-pub height-fits : (l : Float) → T (fits binary32 (heightOf l))
-height-fits l = rw (height-is l) (clamp-fits binary32 (placed l) nil one (div-fits binary32 (sub32 l (f32 0x408a4d3c)) (f32 0x408eb3aa)) (ofBits-fits binary32 0) (ofBits-fits binary32 0x3f800000))
-
-pub height-in : (l : Float) → T (not (isNan l)) → Between nil (heightOf l) one
+pub height-in : (l : Float) → T (not (isNan l)) → Between zero32 (heightOf l) one
 height-in l h =
     let p = div-fits binary32 (sub32 l (f32 0x408a4d3c)) (f32 0x408eb3aa) in
     let q = ofBits-fits binary32 0 in
     let r = ofBits-fits binary32 0x3f800000 in
     let n = placed-number l h in
-    rw (height-is l) (clamp-least binary32 (placed l) nil one p q r n unit, clamp-most binary32 (placed l) nil one p q r n unit)
+    rw (height-is l) (clamp-least binary32 (placed l) zero32 one p q r n unit, clamp-most binary32 (placed l) zero32 one p q r n unit)
 
 pub height-finite : (l : Float) → T (not (isNan l)) → T (finite (heightOf l))
 unfolding ofBits ofFields odd
-height-finite l h = let b = height-in l h in between-finite binary32 nil (heightOf l) one tt tt (b .0) (b .1)
+height-finite l h = let b = height-in l h in between-finite binary32 zero32 (heightOf l) one tt tt (b .0) (b .1)
 
 pub height-of-nan : heightOf nan ≡ nan
 unfolding sub add neg div clamp lt ofBits ofFields odd
@@ -128,15 +125,15 @@ chance : Parted lowProbability (f32 0x3f59999a)
 unfolding add sub neg mul sum round size span climb units odd trailingZeros leadingZeros ofBits ofFields le lt eq
 chance = record { low-finite = tt; rest-finite = tt; not-negative = tt; start = refl; end = refl; whole = refl }
 
-zero-is : nil ≡ nought
+zero-is : zero32 ≡ nought
 unfolding ofBits ofFields odd
 zero-is = refl
 
-above-nought : (x : Float) → T (le nil x) → T (le nought x)
+above-nought : (x : Float) → T (le zero32 x) → T (le nought x)
 above-nought x h = subst (λ (z : Float). T (le z x)) zero-is h
 
-pub strength-in : (l : Float) → T (not (isNan l)) → Between lowOpening (strengthOf l) one
-unfolding strengthOf
+pub strength-in : (l : Float) → T (not (isNan l)) → Between lowOpening (registerStrength l) one
+unfolding registerStrength
 strength-in l h = let b = height-in l h in rw rest-of-opening (in-square lowOpening (f32 0x3f666666) opening (ofBits-fits binary32 0x3f666666) (heightOf l) (height-finite l h) (above-nought (heightOf l) (b .0)) (b .1))
 
 pub probability-in : (l : Float) → T (not (isNan l)) → Between lowProbability (probabilityOf l) one
@@ -155,8 +152,8 @@ no-sum nan = refl
 no-sum (inf s) = refl
 no-sum (fin s m e) = refl
 
-pub strength-of-nan : strengthOf nan ≡ nan
-unfolding strengthOf
+pub strength-of-nan : registerStrength nan ≡ nan
+unfolding registerStrength
 strength-of-nan = rw (height-of-nan, no-product _, no-sum _)
 
 pub probability-of-nan : probabilityOf nan ≡ nan

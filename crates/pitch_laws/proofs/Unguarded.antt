@@ -15,7 +15,7 @@ use lib.Ieee.Positive.{positive, positive-finite}
 use lib.Ieee.Scale.{finite}
 use Rattle.sequences.specs.Pick.{picked, by-case}
 use Rattle.floats.proofs.Facts.{ne-self}
-use Rattle.floats.specs.Names.{f32, add32, sub32, mul32, nil, half, one, asFloat}
+use Rattle.floats.specs.Names.{f32, add32, sub32, mul32, zero32, half, one, asFloat}
 use Rattle.floats.specs.Whole.{floor, ceil}
 use Rattle.floats.proofs.Floor.{floor-fits, ceil-is}
 use Rattle.floats.specs.Choose.{max, min}
@@ -82,8 +82,8 @@ module _ (maxHz : Float) (f : T (fits binary32 maxHz)) (a : T (le leastHz maxHz)
   end-is : min range ramp ≡ ramp
   end-is = min-second range ramp ramp-short
 
-  rest-is : max (sub32 range ramp) nil ≡ sub32 range ramp
-  rest-is = max-first binary32 (sub32 range ramp) nil (sub-fits binary32 range ramp) (ofBits-fits binary32 0) (rest-from maxHz f a)
+  rest-is : max (sub32 range ramp) zero32 ≡ sub32 range ramp
+  rest-is = max-first binary32 (sub32 range ramp) zero32 (sub-fits binary32 range ramp) (ofBits-fits binary32 0) (rest-from maxHz f a)
 
   pub frequency-same : (index : ℕ) → guarded.frequencyOf index maxHz ≡ frequencyOf index maxHz
   unfolding guarded.frequencyOf frequencyOf

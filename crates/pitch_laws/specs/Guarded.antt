@@ -4,14 +4,14 @@ use mathlib.Core.Bool.{Bool}
 use lib.Dec.{ltb}
 use lib.Ieee.{Float, binary32, toUnsigned}
 use Rattle.sequences.specs.Pick.{pick}
-use Rattle.floats.specs.Names.{f32, add32, sub32, mul32, nil, half, one, asFloat}
+use Rattle.floats.specs.Names.{f32, add32, sub32, mul32, zero32, half, one, asFloat}
 use Rattle.floats.specs.Choose.{max, min}
 use Rattle.floats.specs.Whole.{floor, ceil}
 use Rattle.draws.specs.Draws.{randomOf}
 use Rattle.elementary.specs.Log2.{log2Of}
 use Rattle.powers.specs.Power.{exp2}
 use Rattle.settings.specs.declared.Direction.{Direction}
-use Rattle.pitch.specs.Register.{minHz, fullHz, strengthOf}
+use Rattle.pitch.specs.Register.{minHz, fullHz, registerStrength}
 use Rattle.pitch.specs.declared.octaves.Register.{Register}
 use Rattle.pitch.specs.Octave.{upwardOf, lastOf, totalOf, chosenOf}
 use Rattle.pitch.specs.Cloud.{slopeOf, massOf, offsetOf}
@@ -55,7 +55,7 @@ registerOf index rootHz maxHz direction =
     let upper = upperOf maxHz in
     let rootLog = log2Of rootHz in
     let o = octaveOf index rootLog (lowerOf upper) upper (upwardOf direction index) in
-    record { octave = o; strength = strengthOf (add32 rootLog o) }
+    record { octave = o; strength = registerStrength (add32 rootLog o) }
 
 -- ---- free_cloud_frequency
 -- f32::EPSILON
@@ -78,5 +78,5 @@ frequencyOf index maxHz =
     let ramp = rampOf lower in
     let slope = slopeOf ramp in
     let mass = massOf slope (min span ramp) in
-    let target = mul32 (randomOf index 1) (add32 mass (max (sub32 span ramp) nil)) in
+    let target = mul32 (randomOf index 1) (add32 mass (max (sub32 span ramp) zero32)) in
     exp2 (add32 lower (offsetOf slope ramp mass target))

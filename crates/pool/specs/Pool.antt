@@ -4,18 +4,19 @@ use mathlib.Core.Bool.{false}
 use mathlib.Core.List.{[], _∷_}
 use lib.Dec.{eqb}
 use lib.Ieee.{Float}
+use Rattle.sources.specs.Sources.{noSlot}
 use Rattle.sequences.specs.Pick.{pick}
 use Rattle.floats.specs.Names.{f32, f64}
 use Rattle.pool.specs.declared.Particle.{Particle}
 use Rattle.pool.specs.declared.Retired.{Retired}
 use Rattle.pool.specs.declared.Retired.the-variants.{Not, At}
 
--- Particle::default(); 256 is no source
+-- Particle::default()
 unfoldable pub freeParticle : Particle
 freeParticle =
     record {
       active = false;
-      source = 256;
+      source = noSlot;
       birth = 0;
       lifetime = f64 0;
       «frequency_hz» = f32 0;
@@ -39,7 +40,7 @@ unfoldable pub retiredOf : ℕ → Particle → Particle
 retiredOf now p =
     record {
       active = p .active;
-      source = 256;
+      source = noSlot;
       birth = p .birth;
       lifetime = p .lifetime;
       «frequency_hz» = p .«frequency_hz»;

@@ -1,15 +1,18 @@
-// The 64 places of the particles: what holds one, and what retirement and a new pitch do to those that
+// The places of the particles: what holds one, and what retirement and a new pitch do to those that
 // hold one.
 ghost use mathlib.Core.Path.{_≡_};
 ghost use mathlib.Core.List.{map};
 ghost use Rattle.pool.specs.Pool.{freeParticle, firstOf, retiredOf, retireOne, retireBoundOne, retuneOne};
+use sources::NO_SOURCE;
 
 mod vacancies;
 
 pub use vacancies::free_place;
 
-// The slot of a particle that follows none.
-pub const NO_SOURCE: usize = 256;
+pub const MAX_PARTICLES: usize = 64;
+
+// Stands for no place, where the number of one could stand.
+pub const NO_PLACE: usize = 64;
 
 // When a particle was first retired.
 pub enum Retired {
@@ -96,11 +99,11 @@ fn retire_one(p: Particle, sample: u64) -> Particle
     p
 }
 
-pub fn retire_all(particles: [Particle; 64], sample: u64) -> [Particle; 64]
+pub fn retire_all(particles: [Particle; MAX_PARTICLES], sample: u64) -> [Particle; MAX_PARTICLES]
     ensures { λ r. ⌜ r ≡ map (retireOne sample) particles ⌝ }
 {
     let mut out = particles;
-    for i in 0..64 {
+    for i in 0..MAX_PARTICLES {
         let p = out[i];
         out[i] = retire_one(p, sample);
     }
@@ -119,11 +122,15 @@ fn retire_bound_one(p: Particle, slot: usize, sample: u64) -> Particle
 }
 
 // Those that follow the slot.
-pub fn retire_bound(particles: [Particle; 64], slot: usize, sample: u64) -> [Particle; 64]
+pub fn retire_bound(
+    particles: [Particle; MAX_PARTICLES],
+    slot: usize,
+    sample: u64,
+) -> [Particle; MAX_PARTICLES]
     ensures { λ r. ⌜ r ≡ map (retireBoundOne slot sample) particles ⌝ }
 {
     let mut out = particles;
-    for i in 0..64 {
+    for i in 0..MAX_PARTICLES {
         let p = out[i];
         out[i] = retire_bound_one(p, slot, sample);
     }
@@ -143,11 +150,15 @@ fn retune_one(p: Particle, slot: usize, hz: f32) -> Particle
     p
 }
 
-pub fn retune(particles: [Particle; 64], slot: usize, hz: f32) -> [Particle; 64]
+pub fn retune(
+    particles: [Particle; MAX_PARTICLES],
+    slot: usize,
+    hz: f32,
+) -> [Particle; MAX_PARTICLES]
     ensures { λ r. ⌜ r ≡ map (retuneOne slot hz) particles ⌝ }
 {
     let mut out = particles;
-    for i in 0..64 {
+    for i in 0..MAX_PARTICLES {
         let p = out[i];
         out[i] = retune_one(p, slot, hz);
     }

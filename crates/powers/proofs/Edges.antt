@@ -9,11 +9,10 @@ use lib.Ieee.Bits.{is-false}
 use Rattle.floats.proofs.Facts.{ne-self}
 use Rattle.floats_laws.proofs.Numbers.{lt-left-number}
 use Rattle.floats_laws.proofs.Rules.{le-left, le-right}
-use Rattle.floats_laws.proofs.Rising.{highest}
+use Rattle.floats_laws.proofs.Rising.{highest, nought}
 use Rattle.floats_laws.proofs.Through.{le-lt, lt-le}
 use Rattle.floats.proofs.Sat.{no}
 use Rattle.powers.specs.Placed.{edged}
-use Rattle.powers.proofs.PowerLike.{nought}
 
 abbrev pub upper-edge : Float
 upper-edge = fin false 1 (pos 10)

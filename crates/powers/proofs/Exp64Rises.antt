@@ -1,4 +1,4 @@
--- THE CLAIM: e^x at binary64 never falls as x rises, the infinities included. Each step keeps the order: the roundedSizes pattern, the product, the side, the polynomial, the assembly.
+-- THE CLAIM: e^x at binary64 never falls as x rises, the infinities included. Each step keeps the order: the pattern of its size, the product, the side, the polynomial, the assembly.
 use mathlib.Core.Path.{_≡_, refl, ap, _∙_, subst}
 use mathlib.Core.Logic.{inl, inr}
 use mathlib.Core.Bool.{Bool, true, false}
@@ -21,7 +21,8 @@ use Rattle.powers.specs.Placed.{edged, placed, placed64}
 use Rattle.powers.specs.Exp64.{scaled, sided, high, expMantissa, expBits, exp64}
 use Rattle.powers.proofs.Edges.{Inside, edged-rises}
 use Rattle.powers.proofs.PlacedRises.{placed-climbs, placed-rises, placed-under}
-use Rattle.powers.proofs.PowerLike.{nought, PowerLike}
+use Rattle.powers.proofs.PowerLike.{PowerLike}
+use Rattle.floats_laws.proofs.Rising.{nought}
 
 -- ---- the polynomial
 high-rises : {f g a b : ℕ} → f ≤ g → a ≤ b → high f a ≤ high g b
@@ -122,7 +123,7 @@ module _ (p : ℕ) (h : p < 4652218415073722368) where
       let e : (9223372036854775808 + p) % 9223372036854775808 ≡ p = omega arith in
       rw (le-ltb (9223372036854775808 + p) 9223372036854775808 l, e)
 
--- ---- x within the edges, as its roundedSizes pattern
+-- ---- x within the edges, as the pattern of its size
 abbrev bits : ℕ → ℤ → ℕ
 bits m e = toBits binary64 (fin false m e)
 

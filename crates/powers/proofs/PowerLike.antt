@@ -5,10 +5,7 @@ use lib.IntN.{pos}
 use lib.Dec.{T}
 use lib.Ieee.{Float, nan, inf, fin, le, isNan}
 use Rattle.floats_laws.proofs.Rules.{le-left}
-use Rattle.floats_laws.proofs.Rising.{lowest}
-
-abbrev pub nought : Float
-nought = fin false 0 (pos 0)
+use Rattle.floats_laws.proofs.Rising.{lowest, nought}
 
 abbrev pub one : Float
 one = fin false 1 (pos 0)

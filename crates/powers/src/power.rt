@@ -1,7 +1,7 @@
 // 2^x, e^x, 8^x and 10^x at f32, for every argument: at worst 0.672 of a spacing from the true value.
 // Where the answer is a normal number, it takes a product and a sum in f64 and one cell's curve.
 ghost use mathlib.Core.Path.{_≡_};
-ghost use Prim.Native.Nat.{_<_, _≤_, _+_, _*_, _/_, _^_};
+ghost use Prim.Native.Nat.{_<_, _≤_, _+_, _*_, _/_};
 ghost use lib.Dec.{T};
 ghost use lib.Ieee.{binary32, ofBits};
 ghost use lib.Ieee.Scale.{finite};

@@ -1,6 +1,6 @@
 // e^x at f64, for every argument, in 64-bit fixed point with products by halves: within 1.5 spacings of the true value.
 ghost use mathlib.Core.Path.{_≡_};
-ghost use Prim.Native.Nat.{_<_, _≤_, _+_, _*_, _/_, _%_, _^_};
+ghost use Prim.Native.Nat.{_<_, _≤_, _+_, _*_, _/_, _%_};
 ghost use Rattle.powers.specs.Placed.{placed64};
 ghost use Rattle.powers.specs.Exp64 as Exp64;
 

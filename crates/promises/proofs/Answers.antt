@@ -134,13 +134,13 @@ done-reply before d = go (d .answer)
 fired-reply : (before : Run) (t : Triggered) → replyNumber (steps.firedOf before t .reply) ≡ outcomeNumber (t .outcome)
 fired-reply before t = go (t .outcome)
   where
-    go : (o : Outcome) → replyNumber (steps.outcomeOf before (t .engine) o .reply) ≡ outcomeNumber o
+    go : (o : Outcome) → replyNumber (steps.outcomeStep before (t .engine) o .reply) ≡ outcomeNumber o
     go O.Born = refl
     go O.NotEligible = refl
     go O.Dropped = refl
     go (O.Refused r) = refl
 
-framed-reply : (before : Run) (f : Framed) → replyNumber (steps.framedOf before f .reply) ≡ answerOf (f .answer)
+framed-reply : (before : Run) (f : Framed) → replyNumber (steps.framedStep before f .reply) ≡ answerOf (f .answer)
 framed-reply before f = go (f .answer)
   where
     go : (a : Answer) → replyNumber (steps.frameOf before (f .engine) (f .frame) a .reply) ≡ answerOf a

@@ -40,7 +40,7 @@ use Rattle.mask_files.specs.Records.{filedOf}
 use Rattle.mask_files.specs.Masks.{logsFor, placedBy, masksOf}
 use Rattle.script.specs.declared.fields.Field.{Field}
 use Rattle.script.specs.declared.Read.the-variants as R
-use Rattle.script.specs.Bytes.{be16}
+use Rattle.big_endian.specs.Numbers.{be16}
 use Rattle.text.specs.Put.{splice}
 use Rattle.listing.specs.Turns.{turnsOf}
 use Rattle.script.specs.Table.{kindOf, lengthOf, lawful}
@@ -244,7 +244,7 @@ entry-unwritten s o n = unwritten (entryAnswer s o) _ o n
 
 -- ---- all of it
 pub demand1 : Demand1
-unfolding newEngineOf lawfulRate configuredOf checkedOf setSourceOf retireSourceOf releaseSourceOf advancedOf triggeredOf framedOf takenOf accepted bins.preparedOf readOf bodyOf entryAnswer ranOf masksOf
+unfolding newEngineOf lawfulRate configuredOf checkedOf setSourceOf retireSourceOf releaseSourceOf advancedOf triggeredOf framedOf takenOf accepted bins.binTableOf readOf bodyOf entryAnswer ranOf masksOf
 demand1 =
     record {
       exactly = given-exactly;

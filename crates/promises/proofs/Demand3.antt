@@ -22,7 +22,7 @@ use Rattle.engine_laws.proofs.Sound as sound
 use Rattle.engine_laws.proofs.Sound.{Sound, Fit}
 use Rattle.engine_laws.proofs.Stays.{sound-new, sound-reset}
 use Rattle.engine_laws.proofs.Performed.{perform-append, calls-are-acts}
-use Rattle.engine_laws.proofs.Moments.{AllMeant, sound-performed, meant-append, meant-before, calls-meant}
+use Rattle.engine_laws.proofs.Moments.{AllMeant, meant-append, meant-before, calls-meant, sound-performed, sound-applied}
 use Rattle.promises.specs.Life.{place, Held}
 use Rattle.promises.specs.Runs.{run, history, AllTyped, Begins, new, reset}
 use Rattle.promises.specs.Demand3.{AtMoment, OverCalls, Demand3}
@@ -43,7 +43,7 @@ unfolding history
 history-meant e [] t s = tt
 history-meant e (c ∷ cs) t s =
     let m = calls-meant e c (t .0) s in
-    let n = history-meant (applied e c) cs (t .1) (subst Sound (calls-are-acts e c) (sound-performed e (actsOf e c) m s)) in
+    let n = history-meant (applied e c) cs (t .1) (sound-applied e c (t .0) s) in
     meant-append e (actsOf e c) (history (applied e c) cs) m (subst (λ (x : Engine). AllMeant x (history (applied e c) cs)) (sym (calls-are-acts e c)) n)
 
 pub sound-run : (e : Engine) (cs : List Call) → AllTyped cs → Sound e → Sound (run e cs)
@@ -72,7 +72,7 @@ begins-sound e (reset e′ cs b t) = (sound-reset (run e′ cs) (sound-run e′ 
 held-fit : (e : Engine) → Sound e → (i : ℕ) → Held e i → Fit (e .clock .sample) (place e i)
 held-fit e s i h =
     by-case (ltb i (length (e .particles)))
-    (λ l. every-at (sound.Held (e .clock .sample)) (e .particles) i freeParticle (ltb-true _ _ l) (s .held) .0 h)
+    (λ l. every-at (sound.FitPlace (e .clock .sample)) (e .particles) i freeParticle (ltb-true _ _ l) (s .held) .0 h)
     (λ l. absurd (true≢false (sym h ∙ ap (λ p. p .active) (List·getD-eq-default (e .particles) freeParticle (ltb-false _ _ l)) ∙ repeated 0 i)))
 
 plain : (since now : ℕ) → since ≤ now → now ≤ 2 ^ 40 → elapsedOf since now ≡ now - since

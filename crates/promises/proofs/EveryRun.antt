@@ -5,7 +5,7 @@ use Rattle.state.specs.declared.Engine.{Engine}
 use Rattle.engine_laws.specs.Acts.{perform, Call, actsOf, applied}
 use Rattle.engine_laws.proofs.Sound.{Sound}
 use Rattle.engine_laws.proofs.Performed.{calls-are-acts}
-use Rattle.engine_laws.proofs.Moments.{AllMeant, sound-performed, meant-before, calls-meant}
+use Rattle.engine_laws.proofs.Moments.{AllMeant, meant-before, calls-meant, sound-performed, sound-applied}
 use Rattle.engine_laws.proofs.Numbered.{numbered-performed}
 use Rattle.engine_laws.proofs.Ranged.{Ranged, ranged-new, ranged-reset}
 use Rattle.engine_laws.proofs.RangedMoments.{AllInside, ranged-performed, inside-append, inside-before, calls-inside}
@@ -17,12 +17,8 @@ use Rattle.promises.proofs.Demand3.{run-is, history-meant, sound-run, b
 use Rattle.promises.proofs.PlacesHeld.{begins-numbered, numbered-run}
 
 -- ---- a call
-module _ (e : Engine) (c : Call) (s : Sound e) where
-  sound-applied : AllMeant e (actsOf e c) → Sound (applied e c)
-  sound-applied m = subst Sound (calls-are-acts e c) (sound-performed e (actsOf e c) m s)
-
-  ranged-applied : AllInside e (actsOf e c) → Ranged e → Ranged (applied e c)
-  ranged-applied i g = subst Ranged (calls-are-acts e c) (ranged-performed e (actsOf e c) i g)
+ranged-applied : (e : Engine) (c : Call) → AllInside e (actsOf e c) → Ranged e → Ranged (applied e c)
+ranged-applied e c i g = subst Ranged (calls-are-acts e c) (ranged-performed e (actsOf e c) i g)
 
 -- ---- a run
 history-inside : (e : Engine) (cs : List Call) → AllTyped cs → Sound e → Ranged e → AllInside e (history e cs)
@@ -31,7 +27,7 @@ history-inside e [] t s g = tt
 history-inside e (c ∷ cs) t s g =
     let m = calls-meant e c (t .0) s in
     let i = calls-inside e c (t .0) s g m in
-    let n = history-inside (applied e c) cs (t .1) (sound-applied e c s m) (ranged-applied e c s i g) in
+    let n = history-inside (applied e c) cs (t .1) (sound-applied e c (t .0) s) (ranged-applied e c i g) in
     inside-append e (actsOf e c) (history (applied e c) cs) i (subst (λ (x : Engine). AllInside x (history (applied e c) cs)) (sym (calls-are-acts e c)) n)
 
 ranged-run : (e : Engine) (cs : List Call) → AllTyped cs → Sound e → Ranged e → Ranged (run e cs)
@@ -40,7 +36,7 @@ ranged-run e cs t s g = subst Ranged (run-is e cs) (ranged-performed e (history 
 weighed-run : (e : Engine) (cs : List Call) → AllTyped cs → Sound e → Weighed e → Weighed (run e cs)
 unfolding run
 weighed-run e [] t s w = w
-weighed-run e (c ∷ cs) t s w = weighed-run (applied e c) cs (t .1) (sound-applied e c s (calls-meant e c (t .0) s)) (weighed-applied e c (t .0) s w)
+weighed-run e (c ∷ cs) t s w = weighed-run (applied e c) cs (t .1) (sound-applied e c (t .0) s) (weighed-applied e c (t .0) s w)
 
 begins-ranged : (e : Engine) → Begins e → Ranged e × Weighed e
 begins-ranged e (new rate f) = (ranged-new rate, weighed-new rate)

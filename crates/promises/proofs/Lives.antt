@@ -26,7 +26,7 @@ use Rattle.frame.specs.Freed.{secondsOf, retirementOf, dueOf, sweepOne}
 use Rattle.frame.specs.Call.{heldOf, renewedOf}
 use Rattle.engine_laws.specs.Acts.{Act, birth, retire, retireBound, retune, frame, source, streams, next, clock, weights, settings, act}
 use Rattle.sequences.specs.Every.{in-case}
-use Rattle.promises.specs.Life.{place, permitted, newborn, lifeOf, Fate, living, freed, age, faded, due, first, retiredAt, told}
+use Rattle.promises.specs.Life.{place, permitted, newborn, lifeOf, Fate, living, freed, age, faded, due, firstRetired, retiredAt, told}
 use Rattle.promises.specs.Demand3.{Lowest}
 
 -- what an act does to what stands at a place, but for a birth that takes it
@@ -59,7 +59,7 @@ pub due-is : (e : Engine) (p : Particle) → due e (lifeOf p) ≡ dueOf (e .cloc
 unfolding due dueOf secondsOf
 due-is e p = ap (λ (x : Float). le (p .lifetime) (age e (lifeOf p)) || le (f64 0x3ff0000000000000) x) (sym (faded-is e (p .retirement)))
 
-first-is : (x : Retired) (now : ℕ) → first x now ≡ At (firstOf x now)
+first-is : (x : Retired) (now : ℕ) → firstRetired x now ≡ At (firstOf x now)
 first-is Not now = refl
 first-is (At since) now = refl
 

@@ -10,7 +10,7 @@ use lib.Ieee.Bits.{ofBits-fits}
 use Rattle.sequences.specs.Pick.{pick, picked, passed, either}
 use Rattle.sequences.specs.Table.{from}
 use Rattle.sequences.specs.Walk.{walk}
-use Rattle.floats.specs.Names.{f32, f64, sub32, mul32, nil}
+use Rattle.floats.specs.Names.{f32, f64, sub32, mul32, zero32}
 use Rattle.floats.specs.Choose.{clamp, abs}
 use Rattle.floats.specs.Remainder.{remEuclid}
 use Rattle.floats.specs.Word.{product}
@@ -60,27 +60,27 @@ abbrev one : Float
 one = f32 0x3f800000
 
 abbrev alone : List Float
-alone = one ∷ replicate 23 nil
+alone = one ∷ replicate 23 zero32
 
 kept : allowedOf 24 (f32 0x3fc00000) (replicate 24 one) ≡ alone
 unfolding allowedOf keptOf from ofInt round size span climb units odd lt le eq ofBits ofFields pick
 kept = refl
 
-weighed : (le nil nil ≡ true) × (le one nil ≡ false)
+weighed : (le zero32 zero32 ≡ true) × (le one zero32 ≡ false)
 unfolding le lt eq ofBits ofFields odd
 weighed = (refl, refl)
 
-passed-by : (n i : ℕ) (target : Float) (chosen : ℕ) → harmonicFrom i (replicate n nil) (target, chosen) ≡ chosen
+passed-by : (n i : ℕ) (target : Float) (chosen : ℕ) → harmonicFrom i (replicate n zero32) (target, chosen) ≡ chosen
 unfolding harmonicFrom
 passed-by zero i target chosen = refl
-passed-by (suc n) i target chosen = sym (picked (le nil nil) _ _ (weighed .0)) ∙ passed-by n (suc i) target chosen
+passed-by (suc n) i target chosen = sym (picked (le zero32 zero32) _ _ (weighed .0)) ∙ passed-by n (suc i) target chosen
 
 first-harmonic : (target : Float) → harmonicOf alone target ≡ 1
 unfolding harmonicOf harmonicFrom
 first-harmonic target =
-    sym (passed (le one nil) _ _ (weighed .1)) ∙ either (λ (k : ℕ). k ≡ 1) (lt target one) _ _ refl (passed-by 23 1 (sub32 target one) 1)
+    sym (passed (le one zero32) _ _ (weighed .1)) ∙ either (λ (k : ℕ). k ≡ 1) (lt target one) _ _ refl (passed-by 23 1 (sub32 target one) 1)
 
-no-more : (index n : ℕ) → drawnFrom index n 1 (replicate 24 nil) (1 ∷ 0 ∷ 0 ∷ []) ≡ 1 ∷ 0 ∷ 0 ∷ []
+no-more : (index n : ℕ) → drawnFrom index n 1 (replicate 24 zero32) (1 ∷ 0 ∷ 0 ∷ []) ≡ 1 ∷ 0 ∷ 0 ∷ []
 unfolding drawnFrom sumOf walk add sum round size span climb units odd lt le eq ofBits ofFields neg pick
 no-more index zero = refl
 no-more index (suc n) = refl

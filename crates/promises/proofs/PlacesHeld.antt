@@ -28,7 +28,7 @@ use Rattle.script_steps.specs.declared.Run.{Run}
 use Rattle.script_steps.specs.declared.Reply.{Reply}
 use Rattle.script_steps.specs.declared.Reply.the-variants as R
 use Rattle.script_steps.specs.declared.Stepped.{Stepped}
-use Rattle.script_steps.specs.Steps.{fresh, answeredOf, doneOf, outcomeOf, firedOf, frameOf, framedOf, sourceOf, stepOf}
+use Rattle.script_steps.specs.Steps.{fresh, answeredOf, doneOf, outcomeStep, firedOf, frameOf, framedStep, sourceOf, stepOf}
 use Rattle.script.specs.declared.Read.{Read}
 use Rattle.script.specs.declared.Read.the-variants as S
 use Rattle.script.specs.Field.{readOf}
@@ -70,13 +70,13 @@ done-told before d w = go (d .answer)
 fired-told : (before : Run) (t : Triggered) → Numbered (t .engine) → Told (firedOf before t)
 fired-told before t w = go (t .outcome)
   where
-    go : (o : Outcome) → Told (outcomeOf before (t .engine) o)
+    go : (o : Outcome) → Told (outcomeStep before (t .engine) o)
     go O.Born = (w, tt)
     go O.NotEligible = (w, tt)
     go O.Dropped = (w, tt)
     go (O.Refused r) = (w, tt)
 
-framed-told : (before : Run) (f : Framed) → Numbered (f .engine) → Told (framedOf before f)
+framed-told : (before : Run) (f : Framed) → Numbered (f .engine) → Told (framedStep before f)
 unfolding valuesOf
 framed-told before f w = go (f .answer)
   where

@@ -14,7 +14,7 @@ use Rattle.pitch.specs.Cloud.{frequencyOf}
 use Rattle.pitch_laws.proofs.Octaves.{octaves-few}
 use Rattle.pitch_laws.proofs.Tops.{Top, upper-past-40}
 use Rattle.pitch_laws.proofs.Unguarded.{ramp-past-epsilon, span-past-ramp, register-same, frequency-same}
-use Rattle.births.specs.Voices.{maxHzOf, freeHzOf, freeVoiceOf}
+use Rattle.births.specs.Voices.{freeHzOf, freeVoiceOf}
 use Rattle.births.specs.Births.{registerBy, newbornOf}
 use Rattle.births.specs.Birth.{chosenFor, voiceFor, newbornFor}
 use Rattle.frame_laws.proofs.Newborn.{top-of}
@@ -24,8 +24,9 @@ use Rattle.engine_laws.proofs.Sound.{Sound, Sounding}
 use Rattle.engine_laws.proofs.Chosen.{birth-fit}
 use Rattle.engine_laws.proofs.Moments.{AllMeant, sound-performed, meant-before, meant-after}
 use Rattle.promises.specs.Life.{newborn}
-use Rattle.promises.specs.RegisterChoice.{Rate, Root, rateOf, RegisterChoice}
+use Rattle.promises.specs.RegisterChoice.{Rate, Root, sampleRateOf, RegisterChoice}
 use Rattle.promises.proofs.Demand3.{history-meant, begins-sound}
+use Rattle.pitch.specs.Highest.{maxHzOf}
 
 -- ---- a lawful rate
 top : (rate : Float) → Rate rate → Top (maxHzOf rate)
@@ -37,11 +38,11 @@ unfolding ofBits
 rooted e index own s o = let p = birth-fit e index own s o .fair .pitched in (p .hz-fits, p .hz-above, p .hz-finite)
 
 -- its register where the shape is Sprinkle, and its frequency where it is the Cloud and there is no source
-octave-is : (e : Engine) (index own : ℕ) → e .config .shape ≡ Sprinkle → newborn e index own .octave ≡ registerOf index (newborn e index own .«frequency_hz») (maxHzOf (rateOf e)) (e .config .direction) .octave
+octave-is : (e : Engine) (index own : ℕ) → e .config .shape ≡ Sprinkle → newborn e index own .octave ≡ registerOf index (newborn e index own .«frequency_hz») (maxHzOf (sampleRateOf e)) (e .config .direction) .octave
 unfolding newbornFor newbornOf registerBy
-octave-is e index own q = ap (λ (s : Shape). registerBy s index (newborn e index own .«frequency_hz») (maxHzOf (rateOf e)) (e .config .direction) .octave) q
+octave-is e index own q = ap (λ (s : Shape). registerBy s index (newborn e index own .«frequency_hz») (maxHzOf (sampleRateOf e)) (e .config .direction) .octave) q
 
-free-is : (e : Engine) (index own : ℕ) → e .config .shape ≡ Cloud → chosenFor e index own ≡ 256 → newborn e index own .«frequency_hz» ≡ frequencyOf index (maxHzOf (rateOf e))
+free-is : (e : Engine) (index own : ℕ) → e .config .shape ≡ Cloud → chosenFor e index own ≡ 256 → newborn e index own .«frequency_hz» ≡ frequencyOf index (maxHzOf (sampleRateOf e))
 unfolding newbornFor newbornOf voiceFor freeVoiceOf freeHzOf pick
 free-is e index own q z = rw (z, q)
 
@@ -58,9 +59,9 @@ register-choice =
       register = λ maxHz root h f index direction. sym (register-same maxHz (h .0) (h .1) root f index direction);
       frequency = λ maxHz h index. sym (frequency-same maxHz (h .0) (h .1) index);
       octave = λ e index own r f q.
-          let t = top (rateOf e) r in
-          octave-is e index own q ∙ ap (λ x. x .octave) (sym (register-same (maxHzOf (rateOf e)) (t .held) (t .from) (newborn e index own .«frequency_hz») f index (e .config .direction)));
-      free = λ e index own r q z. let t = top (rateOf e) r in free-is e index own q z ∙ sym (frequency-same (maxHzOf (rateOf e)) (t .held) (t .from) index);
+          let t = top (sampleRateOf e) r in
+          octave-is e index own q ∙ ap (λ x. x .octave) (sym (register-same (maxHzOf (sampleRateOf e)) (t .held) (t .from) (newborn e index own .«frequency_hz») f index (e .config .direction)));
+      free = λ e index own r q z. let t = top (sampleRateOf e) r in free-is e index own q z ∙ sym (frequency-same (maxHzOf (sampleRateOf e)) (t .held) (t .from) index);
       births = λ start b cs t before after index own split.
           let s = begins-sound start b .0 in
           let m = subst (AllMeant start) split (history-meant start cs t s) in

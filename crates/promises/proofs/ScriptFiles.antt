@@ -22,7 +22,7 @@ use Rattle.listing.specs.declared.lines.Line.the-variants as L
 use Rattle.listing.specs.declared.turns.Turn.{Turn}
 use Rattle.listing.specs.Turns.{turnsOf}
 use Rattle.mask_records.specs.Bytes.{fileOf}
-use Rattle.mask_laws.specs.Files.{Record, Whole, ReadsAs}
+use Rattle.mask_laws.specs.Files.{Record, WholeRecord, ReadsAs}
 use Rattle.mask_laws.proofs.Files.{file-back}
 use Rattle.mask_laws.proofs.Frames.{entries-count, entries-known}
 use Rattle.mask_files.specs.declared.Filed.{Filed}
@@ -34,7 +34,7 @@ use Rattle.mask_files.proofs.Records.{filed-records}
 
 -- ---- each of the records is one that the reader may find
 module _ (depth : Float) (logs : List Float) (lo : 1 ≤ length logs) (hi : length logs ≤ 8193) where
-  own-whole : (f : Frame) (l : Line) (rs : List Record) → Every Whole rs → Every Whole (recordBy depth logs f l rs)
+  own-whole : (f : Frame) (l : Line) (rs : List Record) → Every WholeRecord rs → Every WholeRecord (recordBy depth logs f l rs)
   own-whole f L.Nothing rs w = w
   own-whole f (L.Frame n v) rs w =
       let k = entries-count f depth logs in
@@ -43,7 +43,7 @@ module _ (depth : Float) (logs : List Float) (lo : 1 ≤ length logs) (hi : leng
   own-whole f (L.Bad n r) rs w = w
   own-whole f (L.End n) rs w = w
 
-  records-whole : (ts : List Turn) → Every Whole (recordsIn depth logs ts)
+  records-whole : (ts : List Turn) → Every WholeRecord (recordsIn depth logs ts)
   unfolding recordsIn
   records-whole [] = tt
   records-whole (t ∷ ts) = own-whole (t .run .frame) (t .line) (recordsIn depth logs ts) (records-whole ts)

@@ -9,6 +9,7 @@ use lib.ListN.{length, take}
 use lib.Seq.{take-append-seam}
 use lib.Ieee.{binary32, binary64}
 use lib.Ieee.Bits.{ofBits-fits}
+use Rattle.floats.specs.Names.{Single}
 use Rattle.sequences.specs.Every.{Every}
 use Rattle.sequences.specs.Pick.{by-case}
 use Rattle.refusals.specs.declared.Answer.{Answer}
@@ -25,12 +26,12 @@ use Rattle.engine.specs.Triggers.{triggeredOf, triggeredBy}
 use Rattle.engine.specs.Advance.{advancedOf}
 use Rattle.frame.specs.declared.Framed.{Framed}
 use Rattle.frame.specs.Call.{framedOf as takeFrameOf}
-use Rattle.script.specs.Bytes.{be32, be64, f32At}
+use Rattle.big_endian.specs.Numbers.{be32, be64, f32At}
 use Rattle.script.specs.Table.{fieldOf}
 use Rattle.script.specs.declared.fields.Field.{Field}
 use Rattle.script.specs.declared.fields.Field.the-variants as F
-use Rattle.script.specs.declared.fields.Kind.{Kind}
-use Rattle.script.specs.declared.fields.Kind.the-variants as K
+use Rattle.script.specs.declared.tags.Kind.{Kind}
+use Rattle.script.specs.declared.tags.Kind.the-variants as K
 use Rattle.script.specs.Reading.{Placed, Reading, Verdict, onward}
 use Rattle.script.proofs.Steps.{Reads, field, wrong, end, onward-reads}
 use Rattle.script.proofs.Whole.{whole, kindAt, valueOf}
@@ -38,12 +39,12 @@ use Rattle.script_writer_laws.specs.Events.{events}
 use Rattle.script_steps.specs.declared.Run.{Run}
 use Rattle.script_steps.specs.declared.Reply.{Reply}
 use Rattle.script_steps.specs.declared.Reply.the-variants as R
-use Rattle.script_steps.specs.Steps.{fresh, answeredOf, doneOf, outcomeOf, firedOf, frameOf, framedOf, sourceOf, stepOf}
+use Rattle.script_steps.specs.Steps.{fresh, answeredOf, doneOf, outcomeStep, firedOf, frameOf, framedStep, sourceOf, stepOf}
 use Rattle.listing.specs.declared.turns.Turn.{Turn}
 use Rattle.listing.specs.Turns.{toldOf, refusalOf, repliedOf, turnsOf}
 use Rattle.promises.specs.Over.{lastLine, turnsOver}
 use Rattle.promises.proofs.Follow.{turns-follow}
-use Rattle.engine_laws.specs.Acts.{Call, Single, Typed, applied}
+use Rattle.engine_laws.specs.Acts.{Call, Typed, applied}
 use Rattle.promises.specs.Life.{Held}
 use Rattle.promises.specs.Runs.{run, history, AllTyped, Begins, new, reset}
 use Rattle.promises.specs.Demand3.{AtMoment, OverCalls}
@@ -62,13 +63,13 @@ done-engine before d = go (d .answer)
 fired-engine : (before : Run) (t : Triggered) → firedOf before t .run .engine ≡ t .engine
 fired-engine before t = go (t .outcome)
   where
-    go : (o : Outcome) → outcomeOf before (t .engine) o .run .engine ≡ t .engine
+    go : (o : Outcome) → outcomeStep before (t .engine) o .run .engine ≡ t .engine
     go O.Born = refl
     go O.NotEligible = refl
     go O.Dropped = refl
     go (O.Refused r) = refl
 
-framed-engine : (before : Run) (f : Framed) → framedOf before f .run .engine ≡ f .engine
+framed-engine : (before : Run) (f : Framed) → framedStep before f .run .engine ≡ f .engine
 framed-engine before f = go (f .answer)
   where
     go : (a : Answer) → frameOf before (f .engine) (f .frame) a .run .engine ≡ f .engine

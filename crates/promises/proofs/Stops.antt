@@ -16,7 +16,7 @@ use Rattle.settings.specs.Settings.{lawfulRate}
 use Rattle.state.specs.declared.Engine.{Engine}
 use Rattle.state.specs.State.{taken, refused}
 use Rattle.engine.specs.New.{newEngineOf}
-use Rattle.script.specs.Bytes.{f32At}
+use Rattle.big_endian.specs.Numbers.{f32At}
 use Rattle.script.specs.Table.{kindOf, fieldOf}
 use Rattle.script.specs.declared.fields.Field.{Field}
 use Rattle.script.specs.declared.fields.Field.the-variants as F

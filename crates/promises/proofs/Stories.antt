@@ -10,6 +10,7 @@ use lib.Dec.{eqb, ltb}
 use lib.ListN.{length, getD, set}
 use lib.Seq.{getD-set-same}
 use lib.Ieee.{Float}
+use Rattle.floats.specs.Word.{grown}
 use Rattle.sequences.specs.Pick.{pick, picked, passed, by-case}
 use Rattle.sequences.specs.First.{first-is}
 use Rattle.pool.specs.declared.Particle.{Particle}
@@ -19,12 +20,12 @@ use Rattle.pool.specs.Pool.{freeParticle}
 use Rattle.pool.specs.Vacancies.{isFree, freePlace}
 use Rattle.pool.proofs.Lowest.{held-below}
 use Rattle.state.specs.declared.Engine.{Engine}
-use Rattle.state.specs.State.{grown, withNext, withTally}
+use Rattle.state.specs.State.{withNext, withTally}
 use Rattle.state.specs.Tallies.{droppedOne, bornOne}
 use Rattle.births.specs.Birth.{chosenFor, withLast, triedOne, voiceFor, newbornFor, settledAt, isBarred, admittedOf, attemptedOf, bornOf}
 use Rattle.frame.specs.Freed.{sweepOne}
 use Rattle.engine_laws.specs.Acts.{Act, birth, retire, retireBound, retune, frame, source, streams, next, clock, weights, settings, act, perform}
-use Rattle.promises.specs.Life.{place, Held, permitted, newborn, Life, lifeOf, Fate, living, freed, due, first, retiredAt, told, onward, story}
+use Rattle.promises.specs.Life.{place, Held, permitted, newborn, Life, lifeOf, Fate, living, freed, due, firstRetired, retiredAt, told, onward, story}
 use Rattle.promises.specs.Demand3.{Lowest, Born, FirstDue, Fixed}
 use Rattle.promises.proofs.Lives.{touched, fateOf, touched-told, untouched, due-is, lowest-is, barred-is, Newly, changed}
 
@@ -98,7 +99,7 @@ frees-only e (weights ws) l q = never l q
 frees-only e (settings c) l q = never l q
 
 -- ---- fixed
-stands : (r : ℕ) (x : Retired) (now : ℕ) → x ≡ At r → first x now ≡ At r
+stands : (r : ℕ) (x : Retired) (now : ℕ) → x ≡ At r → firstRetired x now ≡ At r
 stands r Not now q = absurd (let z : _≡_ {A = ℕ} 0 1 = cc in omega arith)
 stands r (At since) now q = q
 

@@ -15,7 +15,7 @@ use Rattle.pool.specs.Vacancies.{freePlace}
 use Rattle.pool.proofs.Lowest.{held-below}
 use Rattle.births.specs.Births.{newbornOf}
 use Rattle.state.specs.declared.Engine.{Engine}
-use Rattle.state.specs.State.{grown}
+use Rattle.floats.specs.Word.{grown}
 use Rattle.state.specs.Tallies.{bornOne}
 use Rattle.births.specs.Birth.{chosenFor, voiceFor, newbornFor, attemptedOf, bornOf}
 use Rattle.engine.specs.declared.triggers.Outcome.the-variants.{Born, NotEligible, Dropped, Refused}

@@ -33,7 +33,7 @@ use Rattle.mask_records.specs.Written as records
 use Rattle.mask_records.specs.Found as records-in
 use Rattle.mask_files.specs.Records.{filedOf}
 use Rattle.mask_files.specs.Masks.{logsFor, masksOf}
-use Rattle.script.specs.Bytes.{be16}
+use Rattle.big_endian.specs.Numbers.{be16}
 use Rattle.script.specs.Table.{kindOf, lengthOf, lawful}
 use Rattle.script.specs.Field.{misplaced, unknown, readOf}
 use Rattle.script.specs.declared.fields.Field.{Field}
@@ -79,8 +79,8 @@ pub record Demand1 : Type 0 where
       → (framedOf e binHz seconds .engine ≡ e) × (framedOf e binHz seconds .frame ≡ emptyFrame)
   -- 1, 3, 5, 6 in this order
   pub bin-table : (rate : Float) (size : ℕ) (old : List Float)
-      → answerOf (bins.preparedOf rate size old .0) ≡ firstOf ((badRate rate, 1) ∷ (ltb size 1 || ltb 16384 size, 3) ∷ (not (eqb (length old) (size / 2 + 1)), 5) ∷ [])
-  pub bin-table-leaves : (rate : Float) (size : ℕ) (old : List Float) → (answerOf (bins.preparedOf rate size old .0) ≡ 0 → ⊥) → bins.preparedOf rate size old .1 ≡ old
+      → answerOf (bins.binTableOf rate size old .0) ≡ firstOf ((badRate rate, 1) ∷ (ltb size 1 || ltb 16384 size, 3) ∷ (not (eqb (length old) (size / 2 + 1)), 5) ∷ [])
+  pub bin-table-leaves : (rate : Float) (size : ℕ) (old : List Float) → (answerOf (bins.binTableOf rate size old .0) ≡ 0 → ⊥) → bins.binTableOf rate size old .1 ≡ old
   pub gains : (f : Frame) (depth : Float) (logs scratch output : List Float)
       → answerOf (gainsOf f depth logs scratch output .0)
       ≡ firstOf ((not (eqb (length output) (length scratch)) || not (eqb (length output) (length logs)), 5) ∷ (not (lawfulLogs logs), 6) ∷ [])

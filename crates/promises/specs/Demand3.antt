@@ -11,7 +11,7 @@ use Rattle.floats.specs.Names.{f64}
 use Rattle.pool.specs.declared.Retired.the-variants.{At}
 use Rattle.pool.specs.Pool.{freeParticle}
 use Rattle.state.specs.declared.Engine.{Engine}
-use Rattle.state.specs.State.{grown}
+use Rattle.floats.specs.Word.{grown}
 use Rattle.frame.specs.Freed.{elapsedOf}
 use Rattle.frame.specs.Frame.{accepted}
 use Rattle.engine_laws.specs.Acts.{Act, birth, frame, act, perform, Call, takeFrame, actsOf, applied}

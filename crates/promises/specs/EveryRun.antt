@@ -1,4 +1,4 @@
--- WHAT EVERY RUN KEEPS, as it is promised: of any engine that calls have made of a new or a reset one. Its terms are those of `Lawful.antt` of `runs`, where each number's range stands.
+-- WHAT EVERY RUN KEEPS, as it is promised: of any engine that calls have made of a new or a reset one. Its terms are those of `Lawful.antt` of `engine_laws`, where each number's range stands.
 use mathlib.Core.Path.{_≡_}
 use mathlib.Core.List.{List, _++_}
 use Rattle.state.specs.declared.Engine.{Engine}

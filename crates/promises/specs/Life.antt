@@ -65,12 +65,12 @@ unfoldable pub due : Engine → Life → Bool
 due e l = le (l .lifetime) (age e l) || le (f64 0x3ff0000000000000) (faded e (l .retired))
 
 -- the first retirement stands
-abbrev pub first : Retired → ℕ → Retired
-first Not now = At now
-first (At since) now = At since
+abbrev pub firstRetired : Retired → ℕ → Retired
+firstRetired Not now = At now
+firstRetired (At since) now = At since
 
 abbrev pub retiredAt : ℕ → Life → Life
-retiredAt now l = record { birth = l .birth; lifetime = l .lifetime; source = 256; retired = first (l .retired) now }
+retiredAt now l = record { birth = l .birth; lifetime = l .lifetime; source = 256; retired = firstRetired (l .retired) now }
 
 -- One act: an accepted frame frees a particle that is due, a retirement marks it, and no other act does anything to it.
 unfoldable pub told : Engine → Act → Life → Fate

@@ -16,10 +16,10 @@ use Rattle.mask_records.specs.declared.Written.the-variants.{Upto}
 use Rattle.mask_records.specs.declared.Read.the-variants.{Found}
 use Rattle.mask_records.specs.Bytes.{recordOf, fileOf}
 use Rattle.mask_records.specs.Entries.{attenuationAt}
-use Rattle.mask_records.specs.Placed.{sizeOf}
+use Rattle.mask_records.specs.Placed.{recordSize}
 use Rattle.mask_records.specs.Written.{entriesOf, writtenOf}
 use Rattle.mask_records.specs.Found.{readOf}
-use Rattle.mask_laws.specs.Files.{Record, Whole, ReadsAs}
+use Rattle.mask_laws.specs.Files.{Record, WholeRecord, ReadsAs}
 use Rattle.text.specs.Put.{splice}
 use Rattle.mask_files.specs.declared.Filed.the-variants as Files
 use Rattle.mask_files.specs.Masks.{recordsOf, masksOf}
@@ -46,9 +46,9 @@ pub record MaskFiles : Type 0 where
   -- a frame's record that was written is read back, sample, count and entries, from the place where it begins; what stands behind it does not matter
   pub read-back : (sample : ℕ) (f : Frame) (depth : Float) (logs scratch : List Float) (out : List ℕ) (at p : ℕ) → writtenOf sample f depth logs scratch out at .0 ≡ Upto p
       → (lent : List ℕ) → length logs ≤ length lent
-      → readOf (drop at (writtenOf sample f depth logs scratch out at .2)) lent ≡ (Found sample (length logs) (sizeOf (length logs)), entriesOf f depth logs ++ drop (length logs) lent)
+      → readOf (drop at (writtenOf sample f depth logs scratch out at .2)) lent ≡ (Found sample (length logs) (recordSize (length logs)), entriesOf f depth logs ++ drop (length logs) lent)
   -- a file of records is read back, record after record, to its end
-  pub file-back : (rs : List Record) → Every Whole rs → ReadsAs (fileOf rs) rs
+  pub file-back : (rs : List Record) → Every WholeRecord rs → ReadsAs (fileOf rs) rs
   -- a record that was read, and is written again entry by entry, has the bytes that were read
   pub written-again : (s : List ℕ) → Every Byte s → (lent : List ℕ) (sample n k : ℕ) → readOf s lent .0 ≡ Found sample n k → recordOf sample (take n (readOf s lent .1)) ≡ take k s
   -- the mask file of a script: where the call takes it, the records of its accepted frames, each by its sample and its entries, stand in the buffer one behind the other, the rest of it stays, and the reader finds them

@@ -7,7 +7,7 @@ use mathlib.Core.List.{List, _∷_, _++_}
 use lib.Dec.{T}
 use lib.Ieee.{Float, lt, le}
 use lib.Ieee.Scale.{finite}
-use Rattle.floats.specs.Names.{f32, sub32, nil}
+use Rattle.floats.specs.Names.{f32, sub32, zero32, Single}
 use Rattle.elementary.specs.Log2.{log2Of}
 use Rattle.settings.specs.declared.Direction.{Direction}
 use Rattle.settings.specs.declared.Shape.the-variants.{Sprinkle, Cloud}
@@ -16,10 +16,10 @@ use Rattle.pitch.specs.Register.{minHz}
 use Rattle.pitch.specs.Octave.{firstOf, octavesOf, upperOf, registerOf}
 use Rattle.pitch.specs.Cloud.{rampOf, frequencyOf}
 use Rattle.pitch_laws.specs.Guarded as guarded
-use Rattle.births.specs.Voices.{maxHzOf}
+use Rattle.pitch.specs.Highest.{maxHzOf}
 use Rattle.state.specs.declared.Engine.{Engine}
 use Rattle.births.specs.Birth.{chosenFor}
-use Rattle.engine_laws.specs.Acts.{Act, birth, perform, Call, Single}
+use Rattle.engine_laws.specs.Acts.{Act, birth, perform, Call}
 use Rattle.promises.specs.Life.{newborn}
 use Rattle.promises.specs.Runs.{history, AllTyped, Begins}
 
@@ -29,13 +29,13 @@ abbrev pub Rate : Float → Type 0
 Rate rate = Single rate × T (lawfulRate rate)
 
 abbrev pub Root : Float → Type 0
-Root hz = Single hz × T (lt nil hz) × T (finite hz)
+Root hz = Single hz × T (lt zero32 hz) × T (finite hz)
 
 abbrev pub High : Float → Type 0
 High maxHz = Single maxHz × T (le (f32 0x457a0000) maxHz)
 
-abbrev pub rateOf : Engine → Float
-rateOf e = e .prepared .«sample_rate»
+abbrev pub sampleRateOf : Engine → Float
+sampleRateOf e = e .prepared .«sample_rate»
 
 -- ---- what the ranges hold
 -- the count of octaves of a root from 20 Hz to Sprinkle's top
@@ -62,9 +62,9 @@ pub record RegisterChoice : Type 0 where
   pub register : (maxHz root : Float) → High maxHz → Single root → (index : ℕ) (direction : Direction) → registerOf index root maxHz direction ≡ guarded.registerOf index root maxHz direction
   pub frequency : (maxHz : Float) → High maxHz → (index : ℕ) → frequencyOf index maxHz ≡ guarded.frequencyOf index maxHz
   -- so the octave of Sprinkle's particle, and the frequency of the Cloud's that has no source, are those with every guard
-  pub octave : (e : Engine) (index own : ℕ) → Rate (rateOf e) → Single (newborn e index own .«frequency_hz») → e .config .shape ≡ Sprinkle
-      → newborn e index own .octave ≡ guarded.registerOf index (newborn e index own .«frequency_hz») (maxHzOf (rateOf e)) (e .config .direction) .octave
-  pub free : (e : Engine) (index own : ℕ) → Rate (rateOf e) → e .config .shape ≡ Cloud → chosenFor e index own ≡ 256 → newborn e index own .«frequency_hz» ≡ guarded.frequencyOf index (maxHzOf (rateOf e))
+  pub octave : (e : Engine) (index own : ℕ) → Rate (sampleRateOf e) → Single (newborn e index own .«frequency_hz») → e .config .shape ≡ Sprinkle
+      → newborn e index own .octave ≡ guarded.registerOf index (newborn e index own .«frequency_hz») (maxHzOf (sampleRateOf e)) (e .config .direction) .octave
+  pub free : (e : Engine) (index own : ℕ) → Rate (sampleRateOf e) → e .config .shape ≡ Cloud → chosenFor e index own ≡ 256 → newborn e index own .«frequency_hz» ≡ guarded.frequencyOf index (maxHzOf (sampleRateOf e))
   -- every birth of every run is inside the limits: the engine's rate is lawful, and the frequency of the birth's particle is above 0 and finite
   pub births : (start : Engine) → Begins start → (cs : List Call) → AllTyped cs → (before after : List Act) (index own : ℕ) → history start cs ≡ before ++ birth index own ∷ after
-      → Rate (rateOf (perform start before)) × Root (newborn (perform start before) index own .«frequency_hz»)
+      → Rate (sampleRateOf (perform start before)) × Root (newborn (perform start before) index own .«frequency_hz»)

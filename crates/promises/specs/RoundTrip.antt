@@ -16,14 +16,14 @@ use Rattle.script_writer.specs.Encoded.{encoded, encodedAll}
 use Rattle.text.specs.Put.{splice}
 use Rattle.script_writer_laws.specs.InARow.{countAfter, bytesAfter}
 use Rattle.script_writer_laws.specs.Wide.{heldConfig}
-use Rattle.script_writer_laws.specs.Events.{Held, Ordered, PlainNans, Byte, events}
+use Rattle.script_writer_laws.specs.Events.{Writable, Ordered, PlainNans, Byte, events}
 
 pub record RoundTrip : Type 0 where
   -- events that are written one behind the other, where there is room for all, stand in the buffer as the bytes of their list, and the rest of it stays
   pub in-a-row : (es : List Field) (o : List ℕ) (at : ℕ) → at + length (encodedAll es) ≤ length o
       → (countAfter o at es ≡ at + length (encodedAll es)) × (bytesAfter o at es ≡ splice o at (encodedAll es))
   -- events that the form holds, in the order of a script and of lawful size, are read back; NaNs are one in the logic
-  pub read-back : (es : List Field) → Every Held es → Ordered es → length (encodedAll es) ≤ 60000
+  pub read-back : (es : List Field) → Every Writable es → Ordered es → length (encodedAll es) ≤ 60000
       → (readingOf (encodedAll es) .verdict ≡ ended) × (events (readingOf (encodedAll es)) ≡ es)
   -- a script that is read to its end and has no other NaN pattern is written back; its rate need not be lawful
   pub written-back : (s : List ℕ) → Every Byte s → readingOf s .verdict ≡ ended → Every (PlainNans s) (readingOf s .fields)

@@ -1,9 +1,10 @@
 -- A run: any list of calls from an engine that `new` or a reset has made, and every act of it, in order. Definitions only.
 use mathlib.Core.List.{List, [], _∷_, _++_}
 use lib.Ieee.{Float}
+use Rattle.floats.specs.Names.{Single}
 use Rattle.state.specs.declared.Engine.{Engine}
 use Rattle.engine.specs.New.{newEngineOf, resetOf}
-use Rattle.engine_laws.specs.Acts.{Act, Call, Single, Typed, actsOf, applied}
+use Rattle.engine_laws.specs.Acts.{Act, Call, Typed, actsOf, applied}
 
 unfoldable pub run : Engine → List Call → Engine
 unfolding applied

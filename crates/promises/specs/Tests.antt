@@ -20,7 +20,7 @@ use Rattle.mask_records.specs.declared.Read as reader
 use Rattle.mask_records.specs.declared.Read.the-variants as M
 use Rattle.mask_files.specs.declared.Filed.{Filed}
 use Rattle.mask_files.specs.declared.Filed.the-variants as Files
-use Rattle.script.specs.Bytes.{be16}
+use Rattle.big_endian.specs.Numbers.{be16}
 use Rattle.script.specs.declared.fields.Field.{Field}
 use Rattle.script.specs.declared.fields.Field.the-variants as F
 use Rattle.script.specs.declared.Read.{Read}

@@ -1,6 +1,5 @@
 pub mod Part
 pub mod Taken
-pub mod Past
 pub mod Places
 pub mod Script
 pub mod Steps

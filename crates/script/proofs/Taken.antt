@@ -7,11 +7,11 @@ use lib.ListN.{length, getD, drop}
 use lib.Dec.{eqb, ltb, leb}
 use borrow.Author.Tests.{ltb-false, leb-true}
 use Rattle.sequences.specs.Pick.{by-case}
-use Rattle.script.specs.Bytes.{be16}
+use Rattle.big_endian.specs.Numbers.{be16}
 use Rattle.script.specs.Table.{kindOf, lawful, lengthOf}
 use Rattle.script.specs.Field.{bodyOf, misplaced, unknown, readOf}
 use Rattle.refusals.specs.declared.Refusal.{Refusal}
-use Rattle.script.specs.declared.fields.Kind.{Kind}
+use Rattle.script.specs.declared.tags.Kind.{Kind}
 use Rattle.script.specs.declared.fields.Field.{Field}
 use Rattle.script.specs.declared.Read.{Read}
 use Rattle.script.specs.declared.Read.the-variants as R

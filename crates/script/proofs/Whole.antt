@@ -9,9 +9,9 @@ use lib.Dec.{eqb, ltb, leb}
 use borrow.Author.Tests.{eq-eqb, ne-eqb, eqb-true, ltb-false, le-ltb, leb-true, le-leb}
 use Rattle.sequences.specs.Pick.{by-case}
 use Rattle.refusals.specs.declared.Refusal.{Refusal}
-use Rattle.script.specs.Bytes.{be16}
+use Rattle.big_endian.specs.Numbers.{be16}
 use Rattle.script.specs.Table.{kindOf, lengthOf, lawful, fieldOf}
-use Rattle.script.specs.declared.fields.Kind.{Kind}
+use Rattle.script.specs.declared.tags.Kind.{Kind}
 use Rattle.script.specs.declared.fields.Field.{Field}
 use Rattle.script.specs.Field.{bodyOf, misplaced, unknown, readOf}
 use Rattle.script.specs.declared.Read.{Read}

@@ -5,9 +5,9 @@ use mathlib.Core.List.{List}
 use lib.ListN.{length, getD, drop}
 use lib.Dec.{eqb, ltb, leb}
 use Rattle.refusals.specs.declared.Refusal.the-variants.{Tag, Cut, Value, Place}
-use Rattle.script.specs.Bytes.{be16}
+use Rattle.big_endian.specs.Numbers.{be16}
 use Rattle.script.specs.Table.{kindOf, lengthOf, lawful, fieldOf}
-use Rattle.script.specs.declared.fields.Kind.{Kind}
+use Rattle.script.specs.declared.tags.Kind.{Kind}
 use Rattle.script.specs.declared.Read.{Read}
 use Rattle.script.specs.declared.Read.the-variants as R
 

@@ -1,4 +1,3 @@
 pub mod Field
-pub mod Bytes
 pub mod Table
 pub mod Reading

@@ -9,11 +9,11 @@ use Rattle.settings.specs.declared.Shape.{Shape}
 use Rattle.settings.specs.declared.Shape.the-variants.{Sprinkle, Cloud}
 use Rattle.settings.specs.declared.Direction.{Direction}
 use Rattle.settings.specs.declared.Direction.the-variants.{Forward, Reverse, Alternate}
-use Rattle.script.specs.Bytes.{be16, be32, be64, f32At, f64At, flagAt, upTo}
+use Rattle.big_endian.specs.Numbers.{be16, be32, be64, f32At, f64At, flagAt, upTo}
 use Rattle.script.specs.declared.fields.Field.{Field}
 use Rattle.script.specs.declared.fields.Field.the-variants as F
-use Rattle.script.specs.declared.fields.Kind.{Kind}
-use Rattle.script.specs.declared.fields.Kind.the-variants as K
+use Rattle.script.specs.declared.tags.Kind.{Kind}
+use Rattle.script.specs.declared.tags.Kind.the-variants as K
 
 -- the kind of field that a tag stands for, by its number
 abbrev pub kinds : List Kind
@@ -53,19 +53,19 @@ configOf v =
 abbrev pub lawfulConfig : List ℕ → Bool
 lawfulConfig v = upTo v 0 1 && ((upTo v 1 1 && upTo v 2 2) && (upTo v 15 1 && upTo v 16 1))
 
-pub record Row : Type 0 where
+pub record TagRow : Type 0 where
   pub size : ℕ
   pub lawful : List ℕ → Bool
   pub field : List ℕ → Field
 
-abbrev row : ℕ → (List ℕ → Bool) → (List ℕ → Field) → Row
+abbrev row : ℕ → (List ℕ → Bool) → (List ℕ → Field) → TagRow
 row n l f = record { size = n; lawful = l; field = f }
 
 abbrev any : List ℕ → Bool
 any v = true
 
 -- one line a tag; an unknown one is refused before its row is asked
-abbrev pub rowOf : Kind → Row
+abbrev pub rowOf : Kind → TagRow
 rowOf K.Unknown = row 0 any (λ v. F.Reset)
 rowOf K.Rate = row 4 any (λ v. F.Rate (f32At v 0))
 rowOf K.Configure = row 37 lawfulConfig (λ v. F.Configure (configOf v))

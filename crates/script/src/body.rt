@@ -4,9 +4,8 @@ ghost use Prim.Native.Nat.{_+_, _*_, _≤_};
 ghost use lib.ListN.{length};
 ghost use Rattle.script.specs.Field.{bodyOf};
 use crate::Read;
-use crate::fields::Kind;
-use crate::kinds;
-use crate::values;
+use crate::tags;
+use crate::tags::Kind;
 use refusals::Refusal;
 
 // The length that a header says.
@@ -21,7 +20,9 @@ pub fn body_of(kind: Kind, s: &[u8]) -> Read
     requires { ⌜ 3 ≤ length (now s) ⌝ }
     ensures { λ r. ⌜ r ≡ bodyOf kind (now (s .entry)) ⌝ }
 {
-    let n = kinds::length_of(kind);
+    let v = &s[3..];
+    let row = tags::row_of(kind, v);
+    let n = row.length;
     let said = length_said(s[1], s[2]);
     if said != n {
         return Read::Bad(Refusal::Cut);
@@ -29,9 +30,9 @@ pub fn body_of(kind: Kind, s: &[u8]) -> Read
     if s.len() - 3 < n {
         return Read::Bad(Refusal::Cut);
     }
-    let v = &s[3..];
-    if values::is_lawful(kind, v) {
-        Read::Field(values::field_of(kind, v), 3 + n)
+    if row.lawful {
+        let field = row.field;
+        Read::Field(field, 3 + n)
     } else {
         Read::Bad(Refusal::Value)
     }

@@ -1,4 +1,4 @@
-// The fields of an event script: what each kind of them holds, and how its bytes are read.
+// The fields of an event script: what each kind of them holds.
 use settings::Config;
 
 pub enum Field {
@@ -17,22 +17,4 @@ pub enum Field {
     Reset,
     Reserve,
     ReservedTrigger(u16, u64),
-}
-
-// What a tag stands for.
-pub enum Kind {
-    Unknown,
-    Rate,
-    Configure,
-    Source,
-    Retire,
-    Release,
-    Trigger,
-    Seek,
-    Advance,
-    Frame,
-    NoteInput,
-    Reset,
-    Reserve,
-    ReservedTrigger,
 }

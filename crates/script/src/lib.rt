@@ -6,15 +6,14 @@ ghost use Rattle.script.specs.Field.{misplaced, unknown, readOf};
 use refusals::Refusal;
 
 mod body;
-mod bytes;
 mod fields;
-mod kinds;
+mod tags;
 mod values;
 
-pub use bytes::be16_at;
-pub use bytes::be64_at;
-pub use bytes::byte;
 pub use fields::Field;
+
+// Added by 01: a longer script is refused.
+pub const MAX_SCRIPT_BYTES: usize = 60000;
 
 pub enum Read {
     // The field, and how many bytes it takes.
@@ -33,7 +32,7 @@ fn is_misplaced(tag: u8, first: bool) -> bool
 fn is_unknown(tag: u8) -> bool
     ensures { λ r. ⌜ r ≡ unknown tag ⌝ }
 {
-    if tag == 0 { true } else { 13 < tag }
+    if tag == 0 { true } else { tags::LAST_TAG < tag }
 }
 
 // The field at the start of bytes: the header, then the body.
@@ -54,7 +53,7 @@ fn read_header(script: &[u8], first: bool) -> Read
     if unknown {
         return Read::Bad(Refusal::Tag);
     }
-    body::body_of(kinds::kind_of(tag), script)
+    body::body_of(tags::kind_of(tag), script)
 }
 
 // The field at the start of `script`, which is a script's first one or a later one.

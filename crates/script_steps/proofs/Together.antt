@@ -8,7 +8,7 @@ use Rattle.state.specs.declared.Engine.{Engine}
 use Rattle.script_steps.specs.declared.Reply.{Reply}
 use Rattle.script_steps.specs.declared.Run.{Run}
 use Rattle.script_steps.specs.declared.Stepped.{Stepped}
-use Rattle.script_steps.specs.Steps.{withEngine, answeredOf, outcomeOf}
+use Rattle.script_steps.specs.Steps.{withEngine, answeredOf, outcomeStep}
 use Rattle.script_steps.specs.Replies.{replyOf, outcomeReply}
 
 abbrev pub stepped : Run → Engine → Reply → Stepped
@@ -18,7 +18,7 @@ pub answered-is : (run : Run) (e : Engine) (a : Answer) → stepped run e (reply
 answered-is run e A.Taken = refl
 answered-is run e (A.Refused r) = refl
 
-pub outcome-is : (run : Run) (e : Engine) (o : Outcome) → stepped run e (outcomeReply o) ≡ outcomeOf run e o
+pub outcome-is : (run : Run) (e : Engine) (o : Outcome) → stepped run e (outcomeReply o) ≡ outcomeStep run e o
 outcome-is run e O.Born = refl
 outcome-is run e O.NotEligible = refl
 outcome-is run e O.Dropped = refl

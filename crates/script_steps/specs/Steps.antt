@@ -49,14 +49,14 @@ abbrev pub doneOf : Run → Done → Stepped
 doneOf run d = answeredOf run (d .engine) (d .answer)
 
 -- born, not eligible and dropped print nothing
-abbrev pub outcomeOf : Run → Engine → Outcome → Stepped
-outcomeOf run e O.Born = quietOf run e
-outcomeOf run e O.NotEligible = quietOf run e
-outcomeOf run e O.Dropped = quietOf run e
-outcomeOf run e (O.Refused r) = refusedOf run e r
+abbrev pub outcomeStep : Run → Engine → Outcome → Stepped
+outcomeStep run e O.Born = quietOf run e
+outcomeStep run e O.NotEligible = quietOf run e
+outcomeStep run e O.Dropped = quietOf run e
+outcomeStep run e (O.Refused r) = refusedOf run e r
 
 abbrev pub firedOf : Run → Triggered → Stepped
-firedOf run t = outcomeOf run (t .engine) (t .outcome)
+firedOf run t = outcomeStep run (t .engine) (t .outcome)
 
 abbrev pub shownOf : Engine → Frame → Stepped
 shownOf e f = record { run = record { engine = e; frame = f }; reply = R.Framed (valuesOf e (f .activity)) }
@@ -65,8 +65,8 @@ abbrev pub frameOf : Run → Engine → Frame → Answer → Stepped
 frameOf run e f A.Taken = shownOf e f
 frameOf run e f (A.Refused r) = refusedOf run e r
 
-abbrev pub framedOf : Run → Framed → Stepped
-framedOf run f = frameOf run (f .engine) (f .frame) (f .answer)
+abbrev pub framedStep : Run → Framed → Stepped
+framedStep run f = frameOf run (f .engine) (f .frame) (f .answer)
 
 abbrev pub sourceOf : Float → Float → Bool → Source
 sourceOf frequency strength eligible = record { «frequency_hz» = frequency; strength = strength; eligible = eligible }
@@ -80,7 +80,7 @@ stepOf run (F.Release s) = doneOf run (releaseSourceOf (run .engine) s)
 stepOf run (F.Trigger s) = firedOf run (triggeredOf (run .engine) s)
 stepOf run (F.Seek x) = quietOf run (soughtOf (run .engine) x)
 stepOf run (F.Advance n) = doneOf run (advancedOf (run .engine) n)
-stepOf run (F.Frame b x) = framedOf run (takeFrameOf (run .engine) b x)
+stepOf run (F.Frame b x) = framedStep run (takeFrameOf (run .engine) b x)
 stepOf run (F.NoteInput b) = quietOf run (notesOf (run .engine) b)
 stepOf run F.Reset = quietOf run (resetOf (run .engine))
 stepOf run F.Reserve = quietOf run (reservedOf (run .engine) .engine)

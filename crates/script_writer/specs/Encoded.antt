@@ -1,4 +1,4 @@
--- The one encoding of each event: a line for each tag, beside the reader's table (`fields`, Table.antt). Definitions only.
+-- The one encoding of each event: a line for each tag, beside the reader's table (`script`, Table.antt). Definitions only.
 use Prim.Native.Nat.{ℕ}
 use mathlib.Core.Bool.{cond}
 use mathlib.Core.List.{List, [], _∷_, _++_}

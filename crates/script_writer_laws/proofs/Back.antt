@@ -9,12 +9,13 @@ use lib.ListN.{length}
 use lib.Ieee.{Float, binary32, binary64, toBits, ofBits}
 use lib.Ieee.Bits.{ofBits-toBits}
 use borrow.Author.Tests.{le-leb}
+use Rattle.floats.specs.Names.{Single, Double}
 use Rattle.settings.specs.declared.Config.{Config}
 use Rattle.settings.specs.declared.Shape.{Shape}
 use Rattle.settings.specs.declared.Shape.the-variants.{Sprinkle, Cloud}
 use Rattle.settings.specs.declared.Direction.{Direction}
 use Rattle.settings.specs.declared.Direction.the-variants.{Forward, Reverse, Alternate}
-use Rattle.script.specs.Bytes.{be32, be64}
+use Rattle.big_endian.specs.Numbers.{be32, be64}
 use Rattle.script.specs.Table.{configOf, lawfulConfig}
 use Rattle.script.specs.declared.fields.Field.{Field}
 use Rattle.script.specs.declared.fields.Field.the-variants as F
@@ -24,7 +25,7 @@ use Rattle.script.proofs.Whole.{Whole, taken-whole}
 use Rattle.big_endian.specs.Bytes.{flagOf}
 use Rattle.script_writer.specs.Kinds.{shapeOf, directionOf}
 use Rattle.script_writer.specs.Encoded.{encoded, configBytes, held32}
-use Rattle.script_writer_laws.specs.Events.{Single, Double, Held, HeldConfig, isRate}
+use Rattle.script_writer_laws.specs.Events.{Writable, WritableConfig, isRate}
 
 -- ---- numbers
 halves16 : (n : ℕ) → n / 256 * 256 + n % 256 ≡ n
@@ -77,7 +78,7 @@ direction-lawful Reverse = refl
 direction-lawful Alternate = refl
 
 -- ---- settings
-config-back : (c : Config) (t : List ℕ) → HeldConfig c → configOf (configBytes c ++ t) ≡ c
+config-back : (c : Config) (t : List ℕ) → WritableConfig c → configOf (configBytes c ++ t) ≡ c
 unfolding configBytes be32
 config-back c t h =
     λ i. record {
@@ -102,7 +103,7 @@ config-lawful c t =
     rw (flag-lawful (c .enabled), shape-lawful (c .shape), direction-lawful (c .direction), flag-lawful (c .scheduled), flag-lawful (c .sync))
 
 -- ---- an event
-whole-back : (f : Field) (t : List ℕ) → Held f → Whole (encoded f ++ t) (isRate f) f (length (encoded f))
+whole-back : (f : Field) (t : List ℕ) → Writable f → Whole (encoded f ++ t) (isRate f) f (length (encoded f))
 unfolding encoded configBytes misplaced unknown be32 be64
 whole-back (F.Rate x) t h =
     record { long = omega arith; in-place = refl; known = refl; said = refl; fits = omega arith; good = refl; is = ap F.Rate (single-back x h); takes = refl }
@@ -158,5 +159,5 @@ whole-back (F.ReservedTrigger slot index) t h =
       takes = refl;
     }
 
-pub field-back : (f : Field) (t : List ℕ) (first : Bool) → Held f → isRate f ≡ first → readOf (encoded f ++ t) first ≡ R.Field f (length (encoded f))
+pub field-back : (f : Field) (t : List ℕ) (first : Bool) → Writable f → isRate f ≡ first → readOf (encoded f ++ t) first ≡ R.Field f (length (encoded f))
 field-back f t first h e = rw (← e) (taken-whole (whole-back f t h))

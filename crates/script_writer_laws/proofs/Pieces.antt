@@ -6,10 +6,10 @@ use mathlib.Core.List.{List, _∷_}
 use native.Mathlib.Omega.{arith}
 use lib.ListN.{length, take}
 use Rattle.sequences.specs.Every.{Every}
-use Rattle.script.specs.Bytes.{upTo}
+use Rattle.big_endian.specs.Numbers.{upTo}
 use Rattle.script.specs.Table.{configOf, lawfulConfig, lengthOf, lawful, fieldOf}
-use Rattle.script.specs.declared.fields.Kind.{Kind}
-use Rattle.script.specs.declared.fields.Kind.the-variants as K
+use Rattle.script.specs.declared.tags.Kind.{Kind}
+use Rattle.script.specs.declared.tags.Kind.the-variants as K
 use Rattle.script_writer.specs.Encoded.{encoded, configBytes}
 use Rattle.script_writer_laws.specs.Events.{ConfigNans, Nans, Byte}
 use Rattle.script_writer_laws.proofs.Spelled.{behind, bytes16-again, bytes32-again, bytes64-again, held-again, single-again, double-again, flag-again, shape-again, direction-again}

@@ -17,7 +17,7 @@ use Rattle.script.proofs.Steps.{Reads, field, end, only, moved}
 use Rattle.script.proofs.Whole.{end-of-all}
 use Rattle.script_writer.proofs.Sizes.{three-bytes}
 use Rattle.script_writer.specs.Encoded.{encoded, encodedAll}
-use Rattle.script_writer_laws.specs.Events.{Held, NoRate, Ordered, events}
+use Rattle.script_writer_laws.specs.Events.{Writable, NoRate, Ordered, events}
 use Rattle.script_writer_laws.proofs.Back.{field-back}
 
 -- the reading of what was written, from a place on
@@ -35,19 +35,19 @@ one-more f fs e d =
     field e (three-bytes f) (omega (arith, length-append (encoded f) (encodedAll fs)))
     (moved refl refl (sym (drop-append-seam (encoded f) (encodedAll fs))) d)
 
-from-second : (n at : ℕ) (fs : List Field) → 2 ≤ n → Every Held fs → Every NoRate fs → Reads n at (encodedAll fs) (backReading at fs)
+from-second : (n at : ℕ) (fs : List Field) → 2 ≤ n → Every Writable fs → Every NoRate fs → Reads n at (encodedAll fs) (backReading at fs)
 from-second n at [] l h o = end {n = n} {at = at} {s = []} (end-of-all n l)
 from-second n at (f ∷ fs) l h o =
     one-more f fs (field-back f (encodedAll fs) (eqb n 1) (h .0) (o .0 ∙ sym (later n l)))
     (from-second (n + 1) (at + length (encoded f)) fs (omega arith) (h .1) (o .1))
 
-all-back : (es : List Field) → Every Held es → Ordered es → Reads 1 0 (encodedAll es) (backReading 0 es)
+all-back : (es : List Field) → Every Writable es → Ordered es → Reads 1 0 (encodedAll es) (backReading 0 es)
 all-back [] h o = absurd o
 all-back (f ∷ fs) h o =
     one-more {n = 1} {at = 0} f fs (field-back f (encodedAll fs) (eqb 1 1) (h .0) (o .0))
     (from-second 2 (0 + length (encoded f)) fs (omega arith) (h .1) (o .1))
 
-pub reading-back : (es : List Field) → Every Held es → Ordered es → length (encodedAll es) ≤ 60000 → readingOf (encodedAll es) ≡ backReading 0 es
+pub reading-back : (es : List Field) → Every Writable es → Ordered es → length (encodedAll es) ≤ 60000 → readingOf (encodedAll es) ≡ backReading 0 es
 unfolding readingOf
 reading-back es h o l = rw (le-leb _ _ l) (sym (only (all-back es h o)))
 

@@ -12,7 +12,7 @@ use lib.Ieee.Bits.{toBits-ofBits, nanBits-is}
 use borrow.Author.Tests.{le-leb, leb-true, eqb-true, eqb-false}
 use Rattle.sequences.specs.Every.{Every, every-getD}
 use Rattle.sequences.specs.Pick.{by-case}
-use Rattle.script.specs.Bytes.{be16, be32, be64, f32At, f64At, flagAt, upTo}
+use Rattle.big_endian.specs.Numbers.{be16, be32, be64, f32At, f64At, flagAt, upTo}
 use Rattle.script.specs.Table.{shapeAt, directionAt}
 use Rattle.big_endian.specs.Bytes.{bytes16, bytes32, bytes64, single, double, flag}
 use Rattle.script_writer.specs.Kinds.{shapeByte, directionByte}

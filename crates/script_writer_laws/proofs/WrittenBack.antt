@@ -14,7 +14,7 @@ use Rattle.sequences.specs.Every.{Every, every-getD}
 use Rattle.sequences.specs.Pick.{by-case}
 use Rattle.script.specs.Table.{kindOf, lengthOf}
 use Rattle.script.specs.declared.fields.Field.{Field}
-use Rattle.script.specs.declared.fields.Kind.the-variants as K
+use Rattle.script.specs.declared.tags.Kind.the-variants as K
 use Rattle.script.specs.Field.{unknown}
 use Rattle.script.specs.Reading.{Reading, ended, readingOf}
 use Rattle.script.proofs.Steps.{Reads, field, wrong, end, onward-reads}

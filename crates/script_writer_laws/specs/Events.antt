@@ -4,24 +4,18 @@ use mathlib.Core.Path.{_≡_}
 use mathlib.Core.Bool.{Bool, true, false}
 use mathlib.Core.List.{List, [], _∷_, map}
 use lib.ListN.{drop}
-use lib.Dec.{T}
-use lib.Ieee.{Float, Format, binary32, binary64, fits, nanBits}
+use lib.Ieee.{Format, binary32, binary64, nanBits}
+use Rattle.floats.specs.Names.{Single, Double}
 use Rattle.sequences.specs.Every.{Every}
 use Rattle.settings.specs.declared.Config.{Config}
-use Rattle.script.specs.Bytes.{be32, be64}
+use Rattle.big_endian.specs.Numbers.{be32, be64}
 use Rattle.script.specs.declared.fields.Field.{Field}
 use Rattle.script.specs.declared.fields.Field.the-variants as F
 use Rattle.script.specs.Reading.{Placed, Reading}
 
 -- ---- events
-abbrev pub Single : Float → Type 0
-Single x = T (fits binary32 x)
-
-abbrev pub Double : Float → Type 0
-Double x = T (fits binary64 x)
-
 -- floats of their format, a hop and partials of 32 bits
-pub record HeldConfig (c : Config) : Type 0 where
+pub record WritableConfig (c : Config) : Type 0 where
   pub rate : Single (c .«rate_hz»)
   pub size : Single (c .«size_octaves»)
   pub phase : Single (c .phase)
@@ -31,20 +25,20 @@ pub record HeldConfig (c : Config) : Type 0 where
   pub attack : Single (c .«attack_ms»)
   pub release : Single (c .«release_ms»)
 
-abbrev pub Held : Field → Type 0
-Held (F.Rate x) = Single x
-Held (F.Configure c) = HeldConfig c
-Held (F.Source slot frequency strength eligible) = Single frequency × Single strength
-Held (F.Retire slot) = Unit {0}
-Held (F.Release slot) = Unit {0}
-Held (F.Trigger slot) = Unit {0}
-Held (F.Seek cycles) = Double cycles
-Held (F.Advance samples) = Unit {0}
-Held (F.Frame bin seconds) = Single bin × Single seconds
-Held (F.NoteInput present) = Unit {0}
-Held F.Reset = Unit {0}
-Held F.Reserve = Unit {0}
-Held (F.ReservedTrigger slot index) = Unit {0}
+abbrev pub Writable : Field → Type 0
+Writable (F.Rate x) = Single x
+Writable (F.Configure c) = WritableConfig c
+Writable (F.Source slot frequency strength eligible) = Single frequency × Single strength
+Writable (F.Retire slot) = Unit {0}
+Writable (F.Release slot) = Unit {0}
+Writable (F.Trigger slot) = Unit {0}
+Writable (F.Seek cycles) = Double cycles
+Writable (F.Advance samples) = Unit {0}
+Writable (F.Frame bin seconds) = Single bin × Single seconds
+Writable (F.NoteInput present) = Unit {0}
+Writable F.Reset = Unit {0}
+Writable F.Reserve = Unit {0}
+Writable (F.ReservedTrigger slot index) = Unit {0}
 
 abbrev pub isRate : Field → Bool
 isRate (F.Rate x) = true

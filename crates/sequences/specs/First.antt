@@ -81,9 +81,6 @@ module _ {A : Type 0} (q : ℕ → A → Bool) (d : A) where
       by-case (q i x) (λ e. absurd (let g : i + suc j ≡ i = h ∙ sym (picked (q i x) i (firstFrom q (suc i) xs tt) e) in omega arith))
       (λ e. ap (λ (k : ℕ). q k (getD xs j d)) (shifted i j) ∙ from-passes (suc i) xs j (sym (shifted i j) ∙ h ∙ sym (passed (q i x) i (firstFrom q (suc i) xs tt) e)) (le-of-suc-le-suc l))
 
-  pub first-most : (xs : List A) → first q xs ≤ length xs
-  first-most xs = let h = from-most 0 xs in omega arith
-
   pub first-fails : (xs : List A) (j : ℕ) → j < first q xs → q j (getD xs j d) ≡ false
   first-fails xs j h = subst (λ (k : ℕ). q k (getD xs j d) ≡ false) (zero-add j) (from-fails 0 xs j (subst (λ (k : ℕ). k < first q xs) (sym (zero-add j)) h))
 

@@ -81,5 +81,5 @@ unfoldable pub byShape : Shape → Config → ℕ → Float → Contour
 byShape Sprinkle c index floor = sprinkleOf (c .«attack_ms») (c .«release_ms») floor
 byShape Cloud c index floor = cloudOf c index floor
 
-unfoldable pub envelopeOf : Config → ℕ → Float → Contour
-envelopeOf c index rate = byShape (c .shape) c index (hopFloorOf (c .«hop_samples») rate)
+unfoldable pub contourOf : Config → ℕ → Float → Contour
+contourOf c index rate = byShape (c .shape) c index (hopFloorOf (c .«hop_samples») rate)

@@ -5,7 +5,7 @@ use lib.Dec.{ltb}
 use lib.Ieee.{Float, binary32}
 use lib.Ieee.Scale.{finite}
 use Rattle.sequences.specs.Pick.{pick}
-use Rattle.floats.specs.Names.{f32, nil, one}
+use Rattle.floats.specs.Names.{f32, zero32, one}
 use Rattle.floats.specs.Choose.{clamp}
 use Rattle.floats.specs.Remainder.{remEuclid}
 use Rattle.settings.specs.declared.Config.{Config}
@@ -20,11 +20,11 @@ heldTo x fallback a b = clamp (finiteOr x fallback) a b
 
 -- finite(config.attack_ms, 0.0).clamp(0.0, 5000.0)
 abbrev pub attackOf : Float → Float
-attackOf x = heldTo x nil nil (f32 0x459c4000)
+attackOf x = heldTo x zero32 zero32 (f32 0x459c4000)
 
 -- finite(config.release_ms, 70.0).clamp(0.0, 5000.0)
 abbrev pub releaseMsOf : Float → Float
-releaseMsOf x = heldTo x (f32 0x428c0000) nil (f32 0x459c4000)
+releaseMsOf x = heldTo x (f32 0x428c0000) zero32 (f32 0x459c4000)
 
 -- config.partials.clamp(1, MAX_PARTIALS)
 unfoldable pub partialsOf : ℕ → ℕ
@@ -32,7 +32,7 @@ partialsOf n = pick (ltb n 1) 1 (pick (ltb 24 n) 24 n)
 
 -- finite(config.partial_rolloff_db, 6.0).clamp(0.0, 24.0)
 abbrev pub rolloffOf : Float → Float
-rolloffOf x = heldTo x (f32 0x40c00000) nil (f32 0x41c00000)
+rolloffOf x = heldTo x (f32 0x40c00000) zero32 (f32 0x41c00000)
 
 -- finite(config.rate_hz, 1.0).clamp(0.01, 32.0)
 abbrev pub rateOf : Float → Float
@@ -44,7 +44,7 @@ sizeOf x = heldTo x one (f32 0x3e000000) (f32 0x41000000)
 
 -- finite(config.phase, 0.0).rem_euclid(1.0)
 unfoldable pub phaseOf : Float → Float
-phaseOf x = remEuclid binary32 (finiteOr x nil) one
+phaseOf x = remEuclid binary32 (finiteOr x zero32) one
 
 unfoldable pub mendedOf : Config → Config
 mendedOf c =

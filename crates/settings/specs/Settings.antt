@@ -5,7 +5,7 @@ use lib.Dec.{ltb}
 use lib.Ieee.{Float, le}
 use lib.Ieee.Scale.{finite}
 use Rattle.sequences.specs.Pick.{pick}
-use Rattle.floats.specs.Names.{f32, nil, one}
+use Rattle.floats.specs.Names.{f32, zero32, one}
 use Rattle.refusals.specs.declared.Answer.{Answer}
 use Rattle.refusals.specs.declared.Answer.the-variants.{Taken, Refused}
 use Rattle.refusals.specs.declared.Refusal.the-variants.{Size}
@@ -26,13 +26,13 @@ defaultConfig =
       direction = Forward;
       «rate_hz» = one;
       «size_octaves» = one;
-      phase = nil;
+      phase = zero32;
       scheduled = true;
       sync = false;
       «hop_samples» = 2048;
       partials = 1;
       «partial_rolloff_db» = f32 0x40c00000;
-      «attack_ms» = nil;
+      «attack_ms» = zero32;
       «release_ms» = f32 0x428c0000;
     }
 

@@ -1,6 +1,6 @@
 // The envelope of one new particle, from the settings at its birth.
 ghost use mathlib.Core.Path.{_≡_};
-ghost use Rattle.settings.specs.Envelope.{hopFloorOf, onsetOf, releaseOf, sprinkleOf, rawOf, cloudLifetimeOf, cloudAttackOf, cloudOf, envelopeOf};
+ghost use Rattle.settings.specs.Envelope.{hopFloorOf, onsetOf, releaseOf, sprinkleOf, rawOf, cloudLifetimeOf, cloudAttackOf, cloudOf, contourOf};
 use crate::Config;
 use crate::Direction;
 use crate::Shape;
@@ -101,7 +101,7 @@ fn cloud(config: Config, index: u64, hop_floor: f32) -> Contour
 }
 
 pub fn envelope(config: Config, index: u64, sample_rate: f32) -> Contour
-    ensures { λ r. ⌜ r ≡ envelopeOf config index «sample_rate» ⌝ }
+    ensures { λ r. ⌜ r ≡ contourOf config index «sample_rate» ⌝ }
 {
     let shape = config.shape;
     let hop_floor = hop_floor(config.hop_samples, sample_rate);

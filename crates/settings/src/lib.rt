@@ -1,6 +1,6 @@
 // The settings: what may be asked for, its default, and the hop that is refused.
 ghost use mathlib.Core.Path.{_≡_};
-ghost use Rattle.settings.specs.Settings.{isSprinkle, defaultConfig, checkedOf};
+ghost use Rattle.settings.specs.Settings.{isSprinkle, defaultConfig, checkedOf, lawfulRate};
 use refusals::Answer;
 use refusals::Refusal;
 
@@ -81,5 +81,24 @@ pub fn checked(config: Config) -> Answer
         Answer::Refused(Refusal::Size)
     } else {
         Answer::Taken
+    }
+}
+
+// Added by 01: any other sample rate is refused.
+pub const MIN_RATE: f32 = 8000.0;
+
+pub const MAX_RATE: f32 = 384000.0;
+
+pub fn lawful_rate(sample_rate: f32) -> bool
+    ensures { λ r. ⌜ r ≡ lawfulRate «sample_rate» ⌝ }
+{
+    if floats::is_finite32(sample_rate) {
+        if sample_rate >= MIN_RATE {
+            sample_rate <= MAX_RATE
+        } else {
+            false
+        }
+    } else {
+        false
     }
 }

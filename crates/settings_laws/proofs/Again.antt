@@ -10,7 +10,7 @@ use lib.Ieee.Fits.{cond-fits}
 use lib.Ieee.Scale.{finite}
 use lib.Ieee.Bits.{is-true, ofBits-fits}
 use Rattle.sequences.specs.Pick.{pick, by-case}
-use Rattle.floats.specs.Names.{f32, nil, one}
+use Rattle.floats.specs.Names.{f32, zero32, one}
 use Rattle.floats.specs.Choose.{clamp, abs}
 use Rattle.floats.specs.Remainder.{remEuclid}
 use Rattle.floats_laws.proofs.Rules.{between-finite}
@@ -58,15 +58,15 @@ module _ (x d a b : Float) (D : T (finite d)) (A : T (finite a)) (B : T (finite 
 
 attack-again : (x : Float) → attackOf (attackOf x) ≡ attackOf x
 unfolding ofBits lt
-attack-again x = held-again x nil nil (f32 0x459c4000) tt tt tt refl refl refl
+attack-again x = held-again x zero32 zero32 (f32 0x459c4000) tt tt tt refl refl refl
 
 release-again : (x : Float) → releaseMsOf (releaseMsOf x) ≡ releaseMsOf x
 unfolding ofBits lt
-release-again x = held-again x (f32 0x428c0000) nil (f32 0x459c4000) tt tt tt refl refl refl
+release-again x = held-again x (f32 0x428c0000) zero32 (f32 0x459c4000) tt tt tt refl refl refl
 
 rolloff-again : (x : Float) → rolloffOf (rolloffOf x) ≡ rolloffOf x
 unfolding ofBits lt
-rolloff-again x = held-again x (f32 0x40c00000) nil (f32 0x41c00000) tt tt tt refl refl refl
+rolloff-again x = held-again x (f32 0x40c00000) zero32 (f32 0x41c00000) tt tt tt refl refl refl
 
 rate-again : (x : Float) → rateOf (rateOf x) ≡ rateOf x
 unfolding ofBits lt
@@ -87,7 +87,7 @@ one-fits = ofBits-fits binary32 0x3f800000
 -- from 0.0 to 1.0, both ends included
 pub phase-within : (x : Float) → T (le nought (phaseOf x)) × T (le (phaseOf x) one)
 unfolding phaseOf ofBits lt
-phase-within x = euclid-within binary32 (finiteOr x nil) one one-fits (finite-or x nil tt) tt tt
+phase-within x = euclid-within binary32 (finiteOr x zero32) one one-fits (finite-or x zero32 tt) tt tt
 
 pub phase-finite : (x : Float) → T (finite (phaseOf x))
 unfolding ofBits
@@ -95,11 +95,11 @@ phase-finite x = between-finite binary32 nought (phaseOf x) one tt tt (phase-wit
 
 pub phase-fits : (x : Float) → T (fits binary32 x) → T (fits binary32 (phaseOf x))
 unfolding phaseOf
-phase-fits x p = euclid-fits binary32 (finiteOr x nil) one (or-fits x nil p (ofBits-fits binary32 0))
+phase-fits x p = euclid-fits binary32 (finiteOr x zero32) one (or-fits x zero32 p (ofBits-fits binary32 0))
 
 wrapped : (y : Float) → T (fits binary32 y) → T (finite y) → T (le nought y) → T (lt y one) → phaseOf y ≡ y
 unfolding phaseOf
-wrapped y q f h g = ap (λ (z : Float). remEuclid binary32 z one) (finite-stays y nil f) ∙ euclid-again binary32 y one q h g
+wrapped y q f h g = ap (λ (z : Float). remEuclid binary32 z one) (finite-stays y zero32 f) ∙ euclid-again binary32 y one q h g
 
 below-one : (y : Float) → T (le y one) → eq y one ≡ false → T (lt y one)
 unfolding le
@@ -117,7 +117,7 @@ pub tiny-negative-phase : phaseOf (fin true 1 (negsuc 29)) ≡ one
 unfolding phaseOf finiteOr remEuclid rem add sum round ofBits lt abs
 tiny-negative-phase = refl
 
-pub whole-phase : phaseOf one ≡ nil
+pub whole-phase : phaseOf one ≡ zero32
 unfolding phaseOf finiteOr remEuclid rem add sum round ofBits lt abs
 whole-phase = refl
 

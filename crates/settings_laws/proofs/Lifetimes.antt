@@ -6,7 +6,7 @@ use lib.Ieee.{Float, binary32, ofBits, lt, le, eq, fits, isNan}
 use lib.Ieee.Scale.{finite}
 use lib.Ieee.Bits.{is-false, ofBits-fits}
 use Rattle.sequences.specs.Pick.{either}
-use Rattle.floats.specs.Names.{f32, add32, sub32, mul32, div32, nil, one, two}
+use Rattle.floats.specs.Names.{f32, add32, sub32, mul32, div32, zero32, one, two}
 use Rattle.floats.specs.Choose.{max, clamp}
 use Rattle.floats_laws.proofs.Rules.{finite-number, le-trans, between-finite}
 use Rattle.floats_laws.proofs.Rising.{nought}
@@ -16,7 +16,7 @@ use Rattle.floats_laws.proofs.Bounds.{max-upto, add-upto, add-mag, sub-mag, mul
 use Rattle.floats_laws.proofs.Held.{clamp-mag, clamp-least}
 use Rattle.floats_laws.proofs.Spans.{least-above, max-least-left}
 use Rattle.draws.specs.Draws.{randomOf}
-use Rattle.draws.proofs.Unit.{random-mag}
+use Rattle.draws.proofs.Drawn.{random-mag}
 use Rattle.elementary.specs.Sqrt.{sqrtOf}
 use Rattle.elementary_laws.proofs.RootRises.{lowest, lowest-root, highest, highest-root, sqrt-window, sqrt-finite}
 use Rattle.settings.specs.declared.Config.{Config}
@@ -27,7 +27,7 @@ use Rattle.settings.specs.declared.Direction.{Direction}
 use Rattle.settings.specs.declared.Direction.the-variants.{Forward, Reverse, Alternate}
 use Rattle.settings.specs.Settings.{maxHop, lawfulRate}
 use Rattle.settings.specs.Mending.{finiteOr, heldTo, attackOf, releaseMsOf, rateOf, sizeOf, mendedOf}
-use Rattle.settings.specs.Envelope.{hopFloorOf, onsetOf, releaseOf, sprinkleOf, variationOf, rawOf, cloudLifetimeOf, cloudAttack, reverseAttack, cloudAttackOf, cloudOf, byShape, envelopeOf}
+use Rattle.settings.specs.Envelope.{hopFloorOf, onsetOf, releaseOf, sprinkleOf, variationOf, rawOf, cloudLifetimeOf, cloudAttack, reverseAttack, cloudAttackOf, cloudOf, byShape, contourOf}
 use Rattle.settings_laws.proofs.Again.{finite-or, or-fits}
 use Rattle.settings_laws.proofs.Seconds.{floor-upto, onset-least, onset-upto, release-least, release-upto}
 use Rattle.settings_laws.proofs.Attack.{Part, stage-part}
@@ -48,13 +48,13 @@ unfolding ofBits
 sound life attack j M L P = record { finite-life = mag-finite life 10 M; above = least-above life j L; most = mag-le life 5 (pos 1) 10 (lit< tt) (lit≤ tt) M; part = P }
 
 -- ---- Sprinkle
-held-mag : (x d hi : Float) → T (finite d) → Upto hi 5000 → Mag (heldTo x d nil hi) 5000
+held-mag : (x d hi : Float) → T (finite d) → Upto hi 5000 → Mag (heldTo x d zero32 hi) 5000
 unfolding heldTo ofBits
-held-mag x d hi D H = clamp-mag (finiteOr x d) nil hi 5000 (is-false _ (finite-number binary32 (finiteOr x d) (finite-or x d D))) (lit≤ tt) H
+held-mag x d hi D H = clamp-mag (finiteOr x d) zero32 hi 5000 (is-false _ (finite-number binary32 (finiteOr x d) (finite-or x d D))) (lit≤ tt) H
 
 attack-mag : (x : Float) → Mag (attackOf x) 5000
 unfolding ofBits
-attack-mag x = held-mag x nil (f32 0x459c4000) tt (lit≤ tt)
+attack-mag x = held-mag x zero32 (f32 0x459c4000) tt (lit≤ tt)
 
 release-mag : (x : Float) → Mag (releaseMsOf x) 5000
 unfolding ofBits
@@ -159,11 +159,11 @@ cloud-life size rate index floor R F =
 
 -- ---- both
 -- what a Config of the code always has of these two fields: they are f32s
-pub record Formed (c : Config) : Type 0 where
+pub record FormedConfig (c : Config) : Type 0 where
   pub rate : T (fits binary32 (c .«rate_hz»))
   pub size : T (fits binary32 (c .«size_octaves»))
 
-by-shape : (shape : Shape) (c : Config) (index : ℕ) (floor : Float) → Formed c → Upto floor 5 → Sound (byShape shape (mendedOf c) index floor)
+by-shape : (shape : Shape) (c : Config) (index : ℕ) (floor : Float) → FormedConfig c → Upto floor 5 → Sound (byShape shape (mendedOf c) index floor)
 unfolding byShape mendedOf cloudOf
 by-shape Sprinkle c index floor w F = sprinkle-sound (attackOf (c .«attack_ms»)) (releaseMsOf (c .«release_ms»)) floor (attack-mag (c .«attack_ms»)) (release-mag (c .«release_ms»)) F
 by-shape Cloud c index floor w F =
@@ -172,11 +172,11 @@ by-shape Cloud c index floor w F =
     let h = cloud-life size rate index floor (mended-raw (c .«size_octaves») (c .«rate_hz») index (w .size) (w .rate)) F in
     sound (cloudLifetimeOf size rate index floor) (cloudAttackOf (c .direction) index) 500 (h .0) (h .1) (direction-part (c .direction) index)
 
-pub envelope-sound : (c : Config) (index : ℕ) (rate : Float) → Formed c → c .«hop_samples» ≤ maxHop → T (lawfulRate rate) → Sound (envelopeOf (mendedOf c) index rate)
-unfolding envelopeOf mendedOf
+pub envelope-sound : (c : Config) (index : ℕ) (rate : Float) → FormedConfig c → c .«hop_samples» ≤ maxHop → T (lawfulRate rate) → Sound (contourOf (mendedOf c) index rate)
+unfolding contourOf mendedOf
 envelope-sound c index rate w h r = by-shape (c .shape) c index (hopFloorOf (c .«hop_samples») rate) w (floor-upto (c .«hop_samples») rate h r)
 
 -- the Cloud's value is finite before its clamp, whatever the hop and the sample rate
-pub raw-finite : (c : Config) (index : ℕ) → Formed c → T (finite (rawOf (mendedOf c .«size_octaves») (mendedOf c .«rate_hz») index))
+pub raw-finite : (c : Config) (index : ℕ) → FormedConfig c → T (finite (rawOf (mendedOf c .«size_octaves») (mendedOf c .«rate_hz») index))
 unfolding mendedOf
 raw-finite c index w = mag-finite (rawOf (sizeOf (c .«size_octaves»)) (rateOf (c .«rate_hz»)) index) 896 (mended-raw (c .«size_octaves») (c .«rate_hz») index (w .size) (w .rate))

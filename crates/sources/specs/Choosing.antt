@@ -1,4 +1,4 @@
--- The choice of a birth's source, line by line as the Rust has it. 256 stands for its `None`. Definitions only.
+-- The choice of a birth's source, line by line as the Rust has it. `noSlot` stands for its `None`. Definitions only.
 use Prim.Native.Nat.{ℕ, suc, _-_}
 use mathlib.Core.Bool.{Bool, false}
 use mathlib.Core.List.{List, [], _∷_}
@@ -9,7 +9,7 @@ use Rattle.sequences.specs.Pick.{pick}
 use Rattle.sequences.specs.Walk.{count}
 use Rattle.floats.specs.Names.{mul32}
 use Rattle.sources.specs.declared.Source.{Source}
-use Rattle.sources.specs.Sources.{isEligible}
+use Rattle.sources.specs.Sources.{isEligible, noSlot}
 
 -- s.eligible() && Some(*i) != self.last_source
 unfoldable pub isAlternative : ℕ → ℕ → Source → Bool
@@ -33,8 +33,8 @@ choiceOf draw n =
     let at = toUnsigned 64 (mul32 draw (ofInt binary32 (pos n))) in
     pick (ltb (n - 1) at) (n - 1) at
 
--- if alternatives == 0 { position(eligible) } else { nth(choice) }; every slot is another than 256
+-- if alternatives == 0 { position(eligible) } else { nth(choice) }; every slot is another than `noSlot`
 unfoldable pub chosenOf : ℕ → List Source → Float → ℕ
 chosenOf last ss draw =
     let n = alternativesOf last ss in
-    pick (eqb n 0) (nthOf 256 ss 0) (nthOf last ss (choiceOf draw n))
+    pick (eqb n 0) (nthOf noSlot ss 0) (nthOf last ss (choiceOf draw n))

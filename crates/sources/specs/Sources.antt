@@ -1,10 +1,18 @@
 -- The source slots, line by line as the Rust has them. Definitions only.
+use Prim.Native.Nat.{ℕ}
 use mathlib.Core.Bool.{Bool, false, not}
 use lib.Ieee.{Float, lt, eq}
 use lib.Ieee.Scale.{finite}
 use Rattle.sequences.specs.Pick.{pick}
 use Rattle.floats.specs.Names.{f32}
 use Rattle.sources.specs.declared.Source.{Source}
+
+-- MAX_SOURCES; as a slot's number it stands for the Rust's `None`
+abbrev pub maxSources : ℕ
+maxSources = 256
+
+abbrev pub noSlot : ℕ
+noSlot = 256
 
 -- Source::default()
 abbrev pub noSource : Source

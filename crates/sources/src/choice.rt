@@ -1,7 +1,9 @@
-// The choice of a birth's source among the 256 slots, by a draw. 256 stands for no source.
+// The choice of a birth's source among the slots, by a draw.
 ghost use mathlib.Core.Path.{_≡_};
 ghost use Prim.Native.Nat.{_<_};
 ghost use Rattle.sources.specs.Choosing.{isAlternative, alternativesOf, nthOf, choiceOf, chosenOf};
+use crate::MAX_SOURCES;
+use crate::NO_SOURCE;
 use crate::Source;
 
 // One that may be chosen after `last`.
@@ -11,11 +13,11 @@ fn alternative(i: usize, s: Source, last: usize) -> bool
     if i == last { false } else { crate::eligible(s) }
 }
 
-fn alternatives(sources: [Source; 256], last: usize) -> usize
+fn alternatives(sources: [Source; MAX_SOURCES], last: usize) -> usize
     ensures { λ r. ⌜ r ≡ alternativesOf last sources ⌝ }
 {
     let mut n: usize = 0;
-    for i in 0..256 {
+    for i in 0..MAX_SOURCES {
         let s = sources[i];
         if alternative(i, s, last) {
             n += 1;
@@ -24,12 +26,12 @@ fn alternatives(sources: [Source; 256], last: usize) -> usize
     n
 }
 
-// The slot of the n-th alternative, counted from 0; 256 where there are no more.
-fn nth(sources: [Source; 256], last: usize, n: usize) -> usize
+// The slot of the n-th alternative, counted from 0; no source where there are no more.
+fn nth(sources: [Source; MAX_SOURCES], last: usize, n: usize) -> usize
     ensures { λ r. ⌜ r ≡ nthOf last sources n ⌝ }
 {
     let mut left = n;
-    for i in 0..256 {
+    for i in 0..MAX_SOURCES {
         let s = sources[i];
         if alternative(i, s, last) {
             if left == 0 {
@@ -38,7 +40,7 @@ fn nth(sources: [Source; 256], last: usize, n: usize) -> usize
             left -= 1;
         }
     }
-    256
+    NO_SOURCE
 }
 
 // Which of n alternatives a draw takes.
@@ -54,12 +56,12 @@ fn choice(draw: f32, n: usize) -> usize
 }
 
 // By the draw an eligible source other than the last one, else the first eligible one, else none.
-pub fn choose(sources: [Source; 256], last: usize, draw: f32) -> usize
+pub fn choose(sources: [Source; MAX_SOURCES], last: usize, draw: f32) -> usize
     ensures { λ r. ⌜ r ≡ chosenOf last sources draw ⌝ }
 {
     let n = alternatives(sources, last);
     if n == 0 {
-        return nth(sources, crate::MAX_SOURCES, 0);
+        return nth(sources, NO_SOURCE, 0);
     }
     nth(sources, last, choice(draw, n))
 }

@@ -1,5 +1,4 @@
 // The 256 source slots: what a note supplies, and which sources may be chosen.
-// A slot's number from 0 to 255 names its source; 256 stands for no source.
 ghost use mathlib.Core.Path.{_≡_};
 ghost use Rattle.sources.specs.Sources.{noSource, same, isEligible, isPitched, releasedOf};
 
@@ -7,7 +6,11 @@ mod choice;
 
 pub use choice::choose;
 
+// A slot's number is below this.
 pub const MAX_SOURCES: usize = 256;
+
+// Stands for no source, where a slot's number could stand.
+pub const NO_SOURCE: usize = 256;
 
 pub struct Source {
     pub frequency_hz: f32,

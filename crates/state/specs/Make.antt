@@ -14,7 +14,7 @@ use Rattle.pool.specs.declared.Particle.{Particle}
 use Rattle.pool.specs.Pool.{freeParticle}
 use Rattle.settings.specs.Settings.{defaultConfig}
 use Rattle.sources.specs.declared.Source.{Source}
-use Rattle.sources.specs.Sources.{noSource}
+use Rattle.sources.specs.Sources.{noSource, maxSources, noSlot}
 use Rattle.timing.specs.Streams.{newOf}
 use Rattle.state.specs.declared.Engine.{Engine}
 use Rattle.state.specs.declared.Prepared.{Prepared}
@@ -46,7 +46,7 @@ unfoldable pub noParticles : List Particle
 noParticles = replicate 64 freeParticle
 
 unfoldable pub noSources : List Source
-noSources = replicate 256 noSource
+noSources = replicate maxSources noSource
 
 unfoldable pub newOn : Prepared → Engine
 newOn p =
@@ -55,7 +55,7 @@ newOn p =
       sources = noSources;
       prepared = p;
       clock = record { sample = 0; phase = f64 0; «phase_offset» = f64 0 };
-      next = record { opportunity = 0; «immediate_index» = 0; «last_source» = 256; «note_input_present» = false };
+      next = record { opportunity = 0; «immediate_index» = 0; «last_source» = noSlot; «note_input_present» = false };
       streams = newOf 0 false ∷ newOf 1 false ∷ newOf 2 false ∷ [];
       «partial_weights» = p .«default_partial_weights»;
       tally = record { attempts = 0; births = 0; dropped = 0; «decision_hash» = 0; held = 0 };

@@ -1,5 +1,4 @@
 -- The engine with one group of its state in place of another, and what a call hands back. Definitions only.
-use Prim.Native.Nat.{ℕ, _+_, _%_, _^_}
 use mathlib.Core.Bool.{false}
 use mathlib.Core.List.{List}
 use lib.Ieee.{Float, nan}
@@ -14,10 +13,6 @@ use Rattle.state.specs.declared.Done.{Done}
 use Rattle.state.specs.declared.Engine.{Engine}
 use Rattle.state.specs.declared.Next.{Next}
 use Rattle.state.specs.declared.Tally.{Tally}
-
--- x += 1 on a word of 64 bits
-abbrev pub grown : ℕ → ℕ
-grown n = (n + 1) % 2 ^ 64
 
 -- ---- one group of the state
 abbrev pub withParticles : Engine → List Particle → Engine

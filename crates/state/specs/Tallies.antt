@@ -3,11 +3,10 @@ use Prim.Native.Nat.{ℕ, _+_, _*_}
 use lib.Bits.{bitXor}
 use lib.ListN.{getD}
 use lib.Ieee.{binary32, toBits}
-use Rattle.floats.specs.Word.{rotated}
+use Rattle.floats.specs.Word.{rotated, grown}
 use Rattle.draws.specs.Draws.{mixOf}
 use Rattle.pool.specs.declared.Particle.{Particle}
 use Rattle.state.specs.declared.Tally.{Tally}
-use Rattle.state.specs.State.{grown}
 
 -- self.dropped += 1
 abbrev pub droppedOne : Tally → Tally

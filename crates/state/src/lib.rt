@@ -1,11 +1,14 @@
 // The engine's state: a value that goes into a call and comes back, in groups of what changes together.
 ghost use mathlib.Core.Path.{_≡_};
 ghost use Rattle.state.specs.State.{taken, refused};
+use pool::MAX_PARTICLES;
 use pool::Particle;
 use refusals::Answer;
 use refusals::Refusal;
 use settings::Config;
+use sources::MAX_SOURCES;
 use sources::Source;
+use timing::SPRINKLE_STREAMS;
 use timing::SprinkleStream;
 
 mod make;
@@ -32,7 +35,7 @@ pub struct Clock {
 }
 
 // What the next births take: the Cloud's opportunity, a trigger's index, the slot that the last birth
-// chose (256 for none), and whether notes are held.
+// chose (`NO_SOURCE` for none), and whether notes are held.
 pub struct Next {
     pub opportunity: u64,
     pub immediate_index: u64,
@@ -50,12 +53,12 @@ pub struct Tally {
 }
 
 pub struct Engine {
-    pub particles: [Particle; 64],
-    pub sources: [Source; 256],
+    pub particles: [Particle; MAX_PARTICLES],
+    pub sources: [Source; MAX_SOURCES],
     pub prepared: Prepared,
     pub clock: Clock,
     pub next: Next,
-    pub streams: [SprinkleStream; 3],
+    pub streams: [SprinkleStream; SPRINKLE_STREAMS],
     pub partial_weights: [f32; 24],
     pub tally: Tally,
     pub config: Config,

@@ -69,7 +69,7 @@ pub fn from_prepared(prepared: Prepared) -> Engine
     let next = Next {
         opportunity: 0,
         immediate_index: 0,
-        last_source: sources::MAX_SOURCES,
+        last_source: sources::NO_SOURCE,
         note_input_present: false,
     };
     let tally = Tally {
@@ -80,8 +80,8 @@ pub fn from_prepared(prepared: Prepared) -> Engine
         held: 0,
     };
     Engine {
-        particles: [free; 64],
-        sources: [none; 256],
+        particles: [free; pool::MAX_PARTICLES],
+        sources: [none; sources::MAX_SOURCES],
         prepared,
         clock,
         next,

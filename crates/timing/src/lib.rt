@@ -1,7 +1,7 @@
 // When births are due: Sprinkle's three streams, and the Cloud's timing reference. Times are in
 // cycles of the Rate clock.
 ghost use mathlib.Core.Path.{_≡_};
-ghost use Rattle.timing.specs.Streams.{preparedOf, newOf, larger, groupOf, skippedOf, alignedOf, alignedAll, movedOf, referenceOf};
+ghost use Rattle.timing.specs.Streams.{preparedStream, newOf, larger, groupOf, skippedOf, alignedOf, alignedAll, movedOf, referenceOf};
 
 mod starts;
 
@@ -20,7 +20,7 @@ pub struct SprinkleStream {
 }
 
 pub fn prepare(stream: SprinkleStream, lane: usize, sync: bool) -> SprinkleStream
-    ensures { λ r. ⌜ r ≡ preparedOf (stream .index) lane sync ⌝ }
+    ensures { λ r. ⌜ r ≡ preparedStream (stream .index) lane sync ⌝ }
 {
     let index = stream.index;
     let key = draws::sprinkle_key(lane, index / 2 * 2);
@@ -32,7 +32,7 @@ pub fn prepare(stream: SprinkleStream, lane: usize, sync: bool) -> SprinkleStrea
 }
 
 fn at(index: u64, lane: usize, sync: bool) -> SprinkleStream
-    ensures { λ r. ⌜ r ≡ preparedOf index lane sync ⌝ }
+    ensures { λ r. ⌜ r ≡ preparedStream index lane sync ⌝ }
 {
     let stream = SprinkleStream {
         index,
@@ -75,7 +75,7 @@ fn align(lane: usize, reference: f64, sync: bool) -> SprinkleStream
 }
 
 // The streams at a new place of the clock, with no history.
-pub fn align_streams(reference: f64, sync: bool) -> [SprinkleStream; 3]
+pub fn align_streams(reference: f64, sync: bool) -> [SprinkleStream; SPRINKLE_STREAMS]
     ensures { λ r. ⌜ r ≡ alignedAll reference sync ⌝ }
 {
     let first = align(0, reference, sync);

@@ -12,7 +12,7 @@ use lib.Ieee.{Float, nan, inf, fin, binary64, ofBits, ofInt, toUnsigned, up, dow
 use lib.Ieee.Fits.{add-fits, down-pos}
 use lib.Ieee.Scale.{finite}
 use Rattle.sequences.specs.Pick.{by-case}
-use Rattle.floats.specs.Names.{f64, add64, sub64, mul64, div64}
+use Rattle.floats.specs.Names.{f64, add64, sub64, mul64, div64, zero64}
 use Rattle.floats.specs.Whole.{floor}
 use Rattle.floats.specs.Choose.{max}
 use Rattle.floats.specs.Word.{product}
@@ -28,7 +28,7 @@ use Rattle.floats_laws.proofs.Powers.{of-power, floor-mag}
 use Rattle.floats_laws.proofs.Fractions.{Under, mag-under}
 use Rattle.floats_laws.proofs.Between.{under-least}
 use Rattle.draws.specs.Draws.{randomOf}
-use Rattle.timing.specs.Starts.{nil, half, startOf, gapOf, humanOf, nextOf}
+use Rattle.timing.specs.Starts.{halfCycle, startOf, gapOf, humanOf, nextOf}
 use Rattle.timing.specs.Streams.{groupOf, referenceOf}
 use Rattle.timing_laws.proofs.Starts.{start-mag, gap-mag, human-mag, about-mag}
 
@@ -53,7 +53,7 @@ group-most reference h =
     let q = div64 reference (f64 0x4008000000000000) in
     let m1 = div-mag binary64 reference (f64 0x4008000000000000) (2 ^ 34) 1 (lit≤ tt) h (lit≤ tt) in
     let m2 = floor-mag binary64 q (2 ^ 34) (lit≤ tt) m1 in
-    let n = unsigned-most 64 (max (floor binary64 q) nil) (2 ^ 34) (max-mag (floor binary64 q) nil (2 ^ 34) m2 (lit≤ tt)) in
+    let n = unsigned-most 64 (max (floor binary64 q) zero64) (2 ^ 34) (max-mag (floor binary64 q) zero64 (2 ^ 34) m2 (lit≤ tt)) in
     le-trans (mod-le _ (2 ^ 64)) (omega (arith, n))
 
 -- ---- sums from below
@@ -130,11 +130,11 @@ module _ (opportunity : ℕ) (u : opportunity < 2 ^ 64) where
   whole = ofInt binary64 (pos opportunity)
 
   abbrev off : Float
-  off = mul64 (f64 0x3fe6666666666666) (sub64 (randomOf opportunity 0) half)
+  off = mul64 (f64 0x3fe6666666666666) (sub64 (randomOf opportunity 0) halfCycle)
 
   -- 2^34 + 4 + 0.5 - 2
   abbrev floorOf : Float
-  floorOf = add64 (add64 (ofInt binary64 (pos 17179869188)) half) (fin true 2 (pos 0))
+  floorOf = add64 (add64 (ofInt binary64 (pos 17179869188)) halfCycle) (fin true 2 (pos 0))
 
   reference-above : 2 ^ 34 + 4 ≤ opportunity → T (le floorOf (referenceOf opportunity))
   unfolding referenceOf ofBits
@@ -143,9 +143,9 @@ module _ (opportunity : ℕ) (u : opportunity < 2 ^ 64) where
       let n0 = finite-number binary64 whole (mag-finite whole (2 ^ 64) (of-power binary64 opportunity 64 (lit≤ tt) (le-of-lt u))) in
       let w = finite-number binary64 far (mag-finite far (2 ^ 35) (of-power binary64 17179869188 35 (lit≤ tt) (lit≤ tt))) in
       let m3 = about-mag (f64 0x3fe6666666666666) opportunity 0 (lit≤ tt) in
-      let n1 = add-number binary64 whole half n0 tt in
-      let l0 = add-rises binary64 far whole half (whole-rises binary64 17179869188 opportunity h) (add-number binary64 far half w tt) n1 in
-      add-both (add64 far half) (add64 whole half) (fin true 2 (pos 0)) off tt (mag-finite off 2 m3) l0 (mag-least off 2 (lit< tt) m3) n1
+      let n1 = add-number binary64 whole halfCycle n0 tt in
+      let l0 = add-rises binary64 far whole halfCycle (whole-rises binary64 17179869188 opportunity h) (add-number binary64 far halfCycle w tt) n1 in
+      add-both (add64 far halfCycle) (add64 whole halfCycle) (fin true 2 (pos 0)) off tt (mag-finite off 2 m3) l0 (mag-least off 2 (lit< tt) m3) n1
 
   floor-after : T (lt (fin false 1 (pos 34)) floorOf)
   unfolding ofBits ofInt add sum round units odd size span climb lt

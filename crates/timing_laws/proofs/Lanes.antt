@@ -8,14 +8,15 @@ use lib.Dec.{T, ltb}
 use lib.Ieee.{Float, binary64, lt, le, fits}
 use lib.Ieee.Fits.{add-fits}
 use lib.Ieee.Scale.{finite}
+use Rattle.floats.specs.Word.{grown}
 use Rattle.sequences.specs.Pick.{either}
 use Rattle.sequences.specs.Every.{Every}
 use Rattle.floats_laws.proofs.Rules.{finite-number, not-lt→le}
 use Rattle.floats_laws.proofs.Mag.{Mag, mag-finite}
 use Rattle.draws.specs.Draws.{keyOf}
 use Rattle.timing.specs.declared.SprinkleStream.{SprinkleStream}
-use Rattle.timing.specs.Starts.{after, nextOf}
-use Rattle.timing.specs.Streams.{preparedOf, newOf, groupOf, alignedOf, alignedAll, skippedOf, larger, movedOf}
+use Rattle.timing.specs.Starts.{nextOf}
+use Rattle.timing.specs.Streams.{preparedStream, newOf, groupOf, alignedOf, alignedAll, skippedOf, larger, movedOf}
 use Rattle.timing_laws.proofs.Starts.{next-mag}
 use Rattle.timing_laws.proofs.Moves.{aligned-index}
 use Rattle.timing_laws.proofs.Due.{group-most, due-index}
@@ -50,8 +51,8 @@ module _ (s : SprinkleStream) (w : Streamed s) where
       (subst (λ (x : Float). T (le x reference)) (w .is)
       (not-lt→le binary64 reference (s .next) r streamed-fits (finite-number binary64 reference (mag-finite reference (2 ^ 34) m)) (finite-number binary64 (s .next) streamed-finite) d))
 
-pub prepared-streamed : (i lane : ℕ) (sync : Bool) → i ≤ indexMost → Streamed (preparedOf i lane sync)
-unfolding preparedOf
+pub prepared-streamed : (i lane : ℕ) (sync : Bool) → i ≤ indexMost → Streamed (preparedStream i lane sync)
+unfolding preparedStream
 prepared-streamed i lane sync h = record { most = h; key = keyOf lane (i / 2 * 2); sync = sync; is = refl }
 
 pub new-streamed : (lane : ℕ) (sync : Bool) → Streamed (newOf lane sync)
@@ -64,16 +65,16 @@ unfolding movedOf larger
 moved-streamed s w lane reference sync r m d =
     let h = streamed-due s w reference r m d in
     let g = group-most reference m in
-    prepared-streamed _ lane sync (either (λ (n : ℕ). n ≤ indexMost) (ltb (after (s .index)) (groupOf reference)) (groupOf reference) (after (s .index)) (omega (arith, g)) (le-trans (mod-le _ (2 ^ 64)) (omega (arith, h))))
+    prepared-streamed _ lane sync (either (λ (n : ℕ). n ≤ indexMost) (ltb (grown (s .index)) (groupOf reference)) (groupOf reference) (grown (s .index)) (omega (arith, g)) (le-trans (mod-le _ (2 ^ 64)) (omega (arith, h))))
 
 -- ---- aligned
 skipped-is : (s : SprinkleStream) (lane : ℕ) (reference : Float) (sync : Bool) → ((key : ℕ) × (b : Bool) × (s .next ≡ nextOf (s .index) key b))
     → ((key : ℕ) × (b : Bool) × (skippedOf s lane reference sync .next ≡ nextOf (skippedOf s lane reference sync .index) key b))
-unfolding skippedOf preparedOf
-skipped-is s lane reference sync h = either (λ (t : SprinkleStream). (key : ℕ) × (b : Bool) × (t .next ≡ nextOf (t .index) key b)) _ _ _ (keyOf lane (after (s .index) / 2 * 2), sync, refl) h
+unfolding skippedOf preparedStream
+skipped-is s lane reference sync h = either (λ (t : SprinkleStream). (key : ℕ) × (b : Bool) × (t .next ≡ nextOf (t .index) key b)) _ _ _ (keyOf lane (grown (s .index) / 2 * 2), sync, refl) h
 
-prepared-is : (i lane : ℕ) (sync : Bool) → ((key : ℕ) × (b : Bool) × (preparedOf i lane sync .next ≡ nextOf (preparedOf i lane sync .index) key b))
-unfolding preparedOf
+prepared-is : (i lane : ℕ) (sync : Bool) → ((key : ℕ) × (b : Bool) × (preparedStream i lane sync .next ≡ nextOf (preparedStream i lane sync .index) key b))
+unfolding preparedStream
 prepared-is i lane sync = (keyOf lane (i / 2 * 2), sync, refl)
 
 pub aligned-streamed : (lane : ℕ) (reference : Float) (sync : Bool) → Mag reference (2 ^ 34) → Streamed (alignedOf lane reference sync)

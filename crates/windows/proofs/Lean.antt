@@ -17,7 +17,7 @@ use Rattle.floats_laws.proofs.Gap.{one-number}
 use Rattle.floats_laws.proofs.Rising.{nought, sub-falls}
 use Rattle.floats_laws.proofs.Units.{one as i, one-fits, zero-fits}
 use Rattle.windows.specs.declared.Window.{Window}
-use Rattle.floats.specs.Names.{nil, one}
+use Rattle.floats.specs.Names.{zero32, one}
 use Rattle.windows.specs.Opening.{cubic, taperOf, insideOf}
 
 -- ---- 1 - q is at most 1 where q has no minus
@@ -102,7 +102,7 @@ two-clamps x h = ap (λ (y : Float). clamp y nought i) (one-clamp x h) ∙ go (l
     go true e = zero-clamp
     go false e = one-clamp x h ∙ ap (λ (b : Bool). cond b nought x) e
 
-pub lean : (w : Window) (log : Float) → le (w .«radius_octaves») nil ≡ false → cubic (cond (lt (insideOf w log) nil) nil (insideOf w log)) ≡ taperOf (clamp (insideOf w log) nil one)
+pub lean : (w : Window) (log : Float) → le (w .«radius_octaves») zero32 ≡ false → cubic (cond (lt (insideOf w log) zero32) zero32 (insideOf w log)) ≡ taperOf (clamp (insideOf w log) zero32 one)
 unfolding taperOf insideOf ofBits
 lean w log h =
     let d = sub binary32 log (w .«center_log2_hz») in

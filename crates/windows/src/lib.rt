@@ -1,12 +1,10 @@
 // What a frame shows: 192 windows over the logarithm of frequency, and how far each opens a place there.
 ghost use mathlib.Core.Path.{_≡_};
-ghost use Rattle.windows.specs.Opening.{cubic, taperOf, opennessOf, emptyFrame};
+ghost use Rattle.windows.specs.Opening.{cubic, taperOf, opennessOf, emptyWindow, emptyFrame};
 
 mod attenuation;
 
 pub use attenuation::attenuation_db;
-
-pub const MAX_PARTICLES: usize = 64;
 
 // One harmonic of one particle.
 pub struct Window {
@@ -20,15 +18,22 @@ pub struct Frame {
     pub activity: f32,
 }
 
+// The Rust's `Window::default`.
+pub fn empty_window() -> Window
+    ensures { λ r. ⌜ r ≡ emptyWindow ⌝ }
+{
+    Window {
+        center_log2_hz: 0.0,
+        radius_octaves: 0.0,
+        amplitude: 0.0,
+    }
+}
+
 // The Rust's `Frame::default`.
 pub fn empty_frame() -> Frame
     ensures { λ r. ⌜ r ≡ emptyFrame ⌝ }
 {
-    let none = Window {
-        center_log2_hz: 0.0,
-        radius_octaves: 0.0,
-        amplitude: 0.0,
-    };
+    let none = empty_window();
     let windows = [none; 192];
     Frame {
         windows,

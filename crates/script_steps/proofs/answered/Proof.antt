@@ -1,5 +1,4 @@
 -- `answered` meets its contract: a case for each answer.
-use borrow.Author.Needs.{needs}
 use Rattle.script_steps.proofs.answered.Statement.{statement}
 use Rattle.script_steps.proofs.answered.Tie as tie
 

@@ -1,5 +1,4 @@
 -- `fired` meets its contract: a case for each outcome.
-use borrow.Author.Needs.{needs}
 use Rattle.script_steps.proofs.fired.Statement.{statement}
 use Rattle.script_steps.proofs.fired.Tie as tie
 

@@ -1,5 +1,5 @@
 -- `prepare` meets its contract: the callees' answers, put together.
-use Rattle.timing.specs.Streams.{preparedOf}
+use Rattle.timing.specs.Streams.{preparedStream}
 use borrow.Author.Needs.{needs}
 use Rattle.timing.proofs.prepare.Statement.{statement}
 use Rattle.timing.proofs.prepare.Tie as tie
@@ -17,7 +17,7 @@ emit-requires : tie.Need-emit-requires
 emit-requires c κs = search needs
 
 returns : tie.Need-returns
-unfolding preparedOf
+unfolding preparedStream
 returns c = rw (c .emit .ensures, c .before .next .ensures, c .before .before .sprinkle-key .ensures)
 
 pub prepare-spec : {M : Type 1} → statement M

@@ -1,7 +1,4 @@
 -- `turned_away` meets its contract: a free particle, and what it was handed.
-use mathlib.Core.Path.{ap}
-use Rattle.pool.specs.declared.Particle.{Particle}
-use Rattle.births.specs.declared.arrivals.Arrival.{Arrival}
 use borrow.Author.Needs.{needs}
 use Rattle.births.proofs.arrivals.turned_away.Statement.{statement}
 use Rattle.births.proofs.arrivals.turned_away.Tie as tie

@@ -2,7 +2,7 @@ use mathlib.Core.Path.{_≡_}
 use Prim.Native.Nat.{ℕ, _+_, _-_, _*_, _/_, _%_, _≤_, _<_}
 use native.Mathlib.Nat.{le-trans}
 use native.Mathlib.Omega.{arith}
-use Rattle.elementary.specs.Parabolas.{topOf, slopeOf, bendOf}
+use Rattle.elementary.specs.LogCells.{topOf, slopeOf, bendOf}
 use Rattle.elementary.specs.Log2.{fallOf, cellOf, fractionOf}
 use Rattle.elementary.proofs.LogCells.{top-le, fall-le, inner-le, bend-le, cell, back, fraction-lt}
 use borrow.Author.Needs.{needs}
@@ -29,46 +29,33 @@ steps p e s b h q r t =
       right = rw (t, r, q);
     }
 
-at : (c : tie.After-bend) → Steps (c .before .before .before .args .p) (c .before .before .top .result) (c .before .slope .result) (c .bend .result)
-at c = steps _ _ _ _ (c .before .before .before .pre) (c .before .before .top .ensures) (c .before .slope .ensures) (c .bend .ensures)
+at : (c : tie.After-struct-known) → Steps (c .before .before .args .p) (c .before .cell-of .result .top) (c .before .cell-of .result .slope) (c .before .cell-of .result .bend)
+at c = let k = c .before .cell-of in steps _ _ _ _ (c .before .before .pre) (k .ensures .0) (k .ensures .1) (k .ensures .2)
+
+cell-of-requires : tie.Need-cell-of-requires
+cell-of-requires c κs = search needs
 
 sub-t : tie.Need-sub-t
 sub-t c = search needs
-
-top-requires : tie.Need-top-requires
-top-requires c κs = search needs
-
-slope-requires : tie.Need-slope-requires
-slope-requires c κs = search needs
-
-bend-requires : tie.Need-bend-requires
-bend-requires c κs = search needs
 
 mul-result : tie.Need-mul-result
 mul-result c = omega (arith, at c .bent)
 
 add-result : tie.Need-add-result
-add-result c = omega (arith, at c .inner)
+add-result c = omega (arith, at (c .before) .inner)
 
 mul-result-2 : tie.Need-mul-result-2
-mul-result-2 c = omega (arith, at c .fall, at c .most)
+mul-result-2 c = omega (arith, at (c .before) .fall, at (c .before) .most)
 
 sub-result : tie.Need-sub-result
-sub-result c = at c .fall
+sub-result c = at (c .before .before) .fall
 
 returns : tie.Need-returns
-returns c = (at c .right, rw (at c .right) (fraction-lt (c .before .before .before .args .p) (c .before .before .before .pre)))
+returns c =
+    let a = at (c .before .before) in
+    (a .right, rw (a .right) (fraction-lt (c .before .before .before .before .args .p) (c .before .before .before .before .pre)))
 
 pub fraction-spec : {M : Type 1} → statement M
 fraction-spec =
     tie.close
-    (tie.spec
-    sub-t
-    top-requires
-    slope-requires
-    bend-requires
-    mul-result
-    add-result
-    mul-result-2
-    sub-result
-    returns)
+    (tie.spec cell-of-requires sub-t mul-result add-result mul-result-2 sub-result returns)

@@ -1,7 +1,7 @@
 -- `place_source` meets its contract: one test.
 use mathlib.Core.Path.{refl, sym, ap, _∙_}
 use Rattle.sequences.specs.Pick.{took, skipped}
-use Rattle.engine.specs.Slots.{withSource, placedOf}
+use Rattle.engine.specs.Slots.{withSource, suppliedOf}
 use Rattle.state.specs.State.{withParticles}
 use borrow.Author.Needs.{needs}
 use Rattle.engine.proofs.source_calls.place_source.Statement.{statement}
@@ -20,11 +20,11 @@ retune-requires : tie.Need-retune-requires
 retune-requires c κs = search needs
 
 returns : tie.Need-returns
-unfolding placedOf
+unfolding suppliedOf
 returns c = took _ _ _ _ (sym (c .before .before .before .pitched .ensures) ∙ c .before .before .if1 .taken) (ap (withParticles (withSource (c .before .before .before .before .args .engine) (c .before .before .before .before .args .slot) (c .before .before .before .before .args .source))) (c .retune .ensures))
 
 returns-2 : tie.Need-returns-2
-unfolding placedOf
+unfolding suppliedOf
 returns-2 c = skipped _ _ _ _ (sym (c .before .pitched .ensures) ∙ c .if1 .left) refl
 
 pub place-source-spec : {M : Type 1} → statement M

@@ -3,7 +3,7 @@ use mathlib.Core.Path.{_∙_}
 use mathlib.Core.Logic.{⊎-elim}
 use Prim.Native.Nat.{_+_, _*_, _-_, _≤_}
 use native.Mathlib.Omega.{arith}
-use Rattle.windows.specs.Opening.{none}
+use Rattle.windows.specs.Opening.{emptyWindow}
 use Rattle.frame.specs.Windows.{windowAt, windowsOf}
 use Rattle.frame.proofs.Blank.{Blank, blank-none, blank-turns, blank-stored, blank-left, blank-all}
 use Rattle.frame.proofs.Harmonic.{row-shows, other-shows-none, at-place}
@@ -12,22 +12,22 @@ use Rattle.frame.proofs.partials.windows.Statement.{statement}
 use Rattle.frame.proofs.partials.windows.Tie as tie
 
 abbrev Inv-loop2 : tie.InvT-loop2
-Inv-loop2 bin-hz max-hz shown logs out₀ p s partials w₀ out w = (w ≤ 3) × Blank (windowAt logs bin-hz max-hz shown) none (3 * p + w) out
+Inv-loop2 bin-hz max-hz shown logs out₀ p s partials w₀ out w = (w ≤ 3) × Blank (windowAt logs bin-hz max-hz shown) emptyWindow (3 * p + w) out
 
 abbrev μ-loop2 : tie.MeasureT-loop2
 μ-loop2 bin-hz max-hz shown logs out₀ p s partials w₀ out w = 3 - w
 
 abbrev Inv-loop : tie.InvT-loop
-Inv-loop bin-hz max-hz shown logs out₀ p₀ out p = Blank (windowAt logs bin-hz max-hz shown) none (3 * p) out
+Inv-loop bin-hz max-hz shown logs out₀ p₀ out p = Blank (windowAt logs bin-hz max-hz shown) emptyWindow (3 * p) out
 
 abbrev μ-loop : tie.MeasureT-loop
 μ-loop bin-hz max-hz shown logs out₀ p₀ out p = 64 - p
 
-no-window-requires : tie.Need-no-window-requires Inv-loop2 μ-loop2 Inv-loop μ-loop
-no-window-requires c κs = search needs
+empty-window-requires : tie.Need-empty-window-requires Inv-loop2 μ-loop2 Inv-loop μ-loop
+empty-window-requires c κs = search needs
 
 loop-holds : tie.Need-loop-holds Inv-loop2 μ-loop2 Inv-loop μ-loop
-loop-holds c = blank-none _ none _ (c .no-window .ensures)
+loop-holds c = blank-none _ emptyWindow _ (c .empty-window .ensures)
 
 mul-s : tie.Need-mul-s Inv-loop2 μ-loop2 Inv-loop μ-loop
 mul-s c = search needs
@@ -107,7 +107,7 @@ windows-spec =
     μ-loop2
     Inv-loop
     μ-loop
-    no-window-requires
+    empty-window-requires
     loop-holds
     mul-s
     array-copy-out-s

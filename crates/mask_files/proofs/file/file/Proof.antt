@@ -8,7 +8,7 @@ use lib.ListN.{length}
 use Rattle.mask_gains.specs.Logs.{lawfulLogs}
 use Rattle.listing.specs.Turns.{turnsOf}
 use Rattle.mask_files.specs.Records.{filedOf}
-use Rattle.mask_files.specs.Masks.{binsOf, logsFor, placedOf}
+use Rattle.mask_files.specs.Masks.{binsOf, logsFor, filedInto}
 use Rattle.mask_files.proofs.Logs.{logs-lawful, logs-count, prepared-is}
 use borrow.Author.Needs.{needs}
 use Rattle.mask_files.proofs.file.file.Statement.{statement}
@@ -52,7 +52,7 @@ returns c =
     let most = pre .0 .1 in
     let logs = p .last .1 .1 .0 in
     let is : logs ≡ logsFor s (a .fft-size) = prepared-is s (a .fft-size) some most (a .logs .now) logs (p .result) (pre .1 .0) (p .ensures) in
-    c .before .before .before .before .before .before .place .ensures ∙ ap (λ (x : List Float). placedOf (filedOf (a .depth-db) x (turnsOf s)) (a .out .now) (a .at)) is
+    c .before .before .before .before .before .before .place .ensures ∙ ap (λ (x : List Float). filedInto (filedOf (a .depth-db) x (turnsOf s)) (a .out .now) (a .at)) is
 
 pub file-spec : {M : Type 1} → statement M
 file-spec =

@@ -4,7 +4,6 @@ use mathlib.Core.Path.{_≡_, refl, _∙_, subst}
 use native.Mathlib.Omega.{arith}
 use lib.ListN.{length}
 use borrow.Author.Needs.{needs}
-use Rattle.refusals.specs.declared.Answer.the-variants as A
 use Rattle.mask_files.proofs.Steps.{Bins, Tells, told}
 use Rattle.mask_files.proofs.Passes.{Measuring, measuring-starts, after-most, measuring-on, measuring-ends, measuring-stops}
 use Rattle.mask_files.proofs.file.measure.Statement.{statement}

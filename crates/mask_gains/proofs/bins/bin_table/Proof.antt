@@ -3,7 +3,7 @@ use borrow.Author.Needs.{needs}
 use mathlib.Core.Path.{refl, sym, _∙_}
 use borrow.Author.Tests.{lt-ltb, le-ltb, eq-eqb, ne-eqb}
 use Rattle.sequences.specs.Pick.{took, skipped}
-use Rattle.mask_gains.specs.Bins.{preparedOf}
+use Rattle.mask_gains.specs.Bins.{binTableOf}
 use Rattle.mask_gains.proofs.bins.bin_table.Statement.{statement}
 use Rattle.mask_gains.proofs.bins.bin_table.Tie as tie
 
@@ -11,11 +11,11 @@ lawful-rate-requires : tie.Need-lawful-rate-requires
 lawful-rate-requires c κs = search needs
 
 returns : tie.Need-returns
-unfolding preparedOf
+unfolding binTableOf
 returns c = took _ _ _ _ (sym (c .before .before .lawful-rate .ensures) ∙ c .before .if1 .taken) (took _ _ _ _ (lt-ltb _ _ (c .if2 .taken)) refl)
 
 returns-2 : tie.Need-returns-2
-unfolding preparedOf
+unfolding binTableOf
 returns-2 c = took _ _ _ _ (sym (c .before .before .before .lawful-rate .ensures) ∙ c .before .before .if1 .taken) (skipped _ _ _ _ (le-ltb _ _ (c .before .if2 .left)) (took _ _ _ _ (lt-ltb _ _ (c .if3 .taken)) refl))
 
 add-if4 : tie.Need-add-if4
@@ -31,15 +31,15 @@ same-length : tie.Need-same-length
 same-length c = search needs
 
 returns-3 : tie.Need-returns-3
-unfolding preparedOf
+unfolding binTableOf
 returns-3 c = took _ _ _ _ (sym (c .before .before .before .before .before .before .before .before .before .lawful-rate .ensures) ∙ c .before .before .before .before .before .before .before .before .if1 .taken) (skipped _ _ _ _ (le-ltb _ _ (c .before .before .before .before .before .before .before .if2 .left)) (skipped _ _ _ _ (le-ltb _ _ (c .before .before .before .before .before .before .if3 .left)) (took _ _ _ _ (eq-eqb _ _ (c .before .before .before .before .before .if4 .taken)) cc)))
 
 returns-4 : tie.Need-returns-4
-unfolding preparedOf
+unfolding binTableOf
 returns-4 c = took _ _ _ _ (sym (c .before .before .before .before .lawful-rate .ensures) ∙ c .before .before .before .if1 .taken) (skipped _ _ _ _ (le-ltb _ _ (c .before .before .if2 .left)) (skipped _ _ _ _ (le-ltb _ _ (c .before .if3 .left)) (skipped _ _ _ _ (ne-eqb _ _ (c .if4 .left)) refl)))
 
 returns-5 : tie.Need-returns-5
-unfolding preparedOf
+unfolding binTableOf
 returns-5 c = skipped _ _ _ _ (sym (c .before .lawful-rate .ensures) ∙ c .if1 .left) refl
 
 pub bin-table-spec : {M : Type 1} → statement M

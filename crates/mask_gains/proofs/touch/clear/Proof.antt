@@ -3,13 +3,13 @@ use borrow.Author.Needs.{needs}
 use Prim.Native.Nat.{ℕ, _-_}
 use mathlib.Core.Path.{refl}
 use lib.ListN.{length}
-use Rattle.floats.specs.Names.{nil}
+use Rattle.floats.specs.Names.{zero32}
 use Rattle.sequences.specs.Table.{Filled, filled-none, filled-more, filled-all}
 use Rattle.mask_gains.proofs.touch.clear.Statement.{statement}
 use Rattle.mask_gains.proofs.touch.clear.Tie as tie
 
 abbrev Inv-loop : tie.InvT-loop
-Inv-loop scratch₀ i₀ i-end scratch i = Filled (λ (j : ℕ). nil) (length scratch₀) i scratch
+Inv-loop scratch₀ i₀ i-end scratch i = Filled (λ (j : ℕ). zero32) (length scratch₀) i scratch
 
 abbrev μ-loop : tie.MeasureT-loop
 μ-loop scratch₀ i₀ i-end scratch i = length scratch₀ - i

@@ -7,7 +7,7 @@ use borrow.Author.Tests.{eq-eqb, ne-eqb}
 use lib.Ieee.{Float}
 use Rattle.sequences.specs.Pick.{took, skipped}
 use Rattle.sequences.specs.Table.{table}
-use Rattle.floats.specs.Names.{nil}
+use Rattle.floats.specs.Names.{zero32}
 use Rattle.refusals.specs.declared.Answer.{Answer}
 use Rattle.refusals.specs.declared.Answer.the-variants.{Taken}
 use Rattle.mask_gains.specs.Opened.{openAt, openedOf}
@@ -31,7 +31,7 @@ clear-requires c κs = search needs
 walk-requires : tie.Need-walk-requires
 walk-requires c κs =
     let s = c .before .before .before .before .before .before in
-    (c .before .before .before .clear .ensures ∙ ap (λ (n : ℕ). table n (λ i. nil)) (s .before .if1 .left), sorted _ (s .before .before .before .shared-slice-known .given) (sym (s .lawful .ensures) ∙ c .before .before .before .before .before .if2 .taken))
+    (c .before .before .before .clear .ensures ∙ ap (λ (n : ℕ). table n (λ i. zero32)) (s .before .if1 .left), sorted _ (s .before .before .before .shared-slice-known .given) (sym (s .lawful .ensures) ∙ c .before .before .before .before .before .if2 .taken))
 
 same-length : tie.Need-same-length
 same-length c = search needs

@@ -12,6 +12,9 @@ Inv-loop flat activity windows₀ j₀ windows j = Filled (windowAt flat) 192 j 
 abbrev μ-loop : tie.MeasureT-loop
 μ-loop flat activity windows₀ j₀ windows j = 192 - j
 
+empty-window-requires : tie.Need-empty-window-requires Inv-loop μ-loop
+empty-window-requires c κs = search needs
+
 loop-holds : tie.Need-loop-holds Inv-loop μ-loop
 loop-holds c = filled-none _ 192 _ (search needs)
 
@@ -43,6 +46,7 @@ frame-of-spec =
     (tie.spec
     Inv-loop
     μ-loop
+    empty-window-requires
     loop-holds
     window-at-requires
     mul-windows

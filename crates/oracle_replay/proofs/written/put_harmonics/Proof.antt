@@ -3,7 +3,7 @@ use Prim.Native.Nat.{_-_}
 use mathlib.Core.Path.{ap}
 use lib.ListN.{getD}
 use lib.Ieee.{nan}
-use Rattle.oracle_replay.specs.Numbers.{harmonicOf}
+use Rattle.oracle_replay.specs.Numbers.{harmonicWords}
 use Rattle.oracle_replay.specs.State.{wordsBytes, harmonicsBytes}
 use Rattle.oracle_replay.proofs.Joined.{Pieces, none-yet, one-more, all-there}
 use borrow.Author.Needs.{needs}
@@ -11,7 +11,7 @@ use Rattle.oracle_replay.proofs.written.put_harmonics.Statement.{statem
 use Rattle.oracle_replay.proofs.written.put_harmonics.Tie as tie
 
 abbrev Inv-loop : tie.InvT-loop
-Inv-loop out₀ at logs defaults weights at₀ i₀ out at' i = Pieces (λ k. wordsBytes (harmonicOf (getD logs k nan) (getD defaults k nan) (getD weights k nan))) 24 out₀ at₀ out i at'
+Inv-loop out₀ at logs defaults weights at₀ i₀ out at' i = Pieces (λ k. wordsBytes (harmonicWords (getD logs k nan) (getD defaults k nan) (getD weights k nan))) 24 out₀ at₀ out i at'
 
 abbrev μ-loop : tie.MeasureT-loop
 μ-loop out₀ at logs defaults weights at₀ i₀ out at' i = 24 - i

@@ -4,7 +4,7 @@ use mathlib.Core.Path.{ap, _∙_}
 use lib.ListN.{getD}
 use Rattle.sources.specs.Sources.{noSource}
 use Rattle.sequences.specs.Default.{getD-any}
-use Rattle.oracle_replay.specs.Numbers.{sourceOf}
+use Rattle.oracle_replay.specs.Numbers.{sourceWords}
 use Rattle.oracle_replay.specs.State.{wordsBytes, sourcesBytes}
 use Rattle.oracle_replay.proofs.Joined.{Pieces, none-yet, one-more, all-there}
 use borrow.Author.Needs.{needs}
@@ -12,7 +12,7 @@ use Rattle.oracle_replay.proofs.written.put_sources.Statement.{statemen
 use Rattle.oracle_replay.proofs.written.put_sources.Tie as tie
 
 abbrev Inv-loop : tie.InvT-loop
-Inv-loop out₀ at sources at₀ i₀ out at' i = Pieces (λ k. wordsBytes (sourceOf (getD sources k noSource))) 256 out₀ at₀ out i at'
+Inv-loop out₀ at sources at₀ i₀ out at' i = Pieces (λ k. wordsBytes (sourceWords (getD sources k noSource))) 256 out₀ at₀ out i at'
 
 abbrev μ-loop : tie.MeasureT-loop
 μ-loop out₀ at sources at₀ i₀ out at' i = 256 - i
@@ -46,7 +46,7 @@ loop-again c =
     let l = c .before .before .before .before .before .before .before .before .loop in
     let a = c .before .before .before .before .before .before .before .before .before .before .args in
     let here = getD-any (a .t3) (l .i) _ noSource (search needs) in
-    one-more (l .inv) (search needs) (ap wordsBytes (c .before .before .before .before .before .source2 .ensures ∙ ap sourceOf here)) (c .before .before .put-words .ensures)
+    one-more (l .inv) (search needs) (ap wordsBytes (c .before .before .before .before .before .source2 .ensures ∙ ap sourceWords here)) (c .before .before .put-words .ensures)
 
 same-length : tie.Need-same-length Inv-loop μ-loop
 same-length c = c .before .loop .inv .same

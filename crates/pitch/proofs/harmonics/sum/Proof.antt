@@ -2,15 +2,15 @@
 use borrow.Author.Needs.{needs}
 use mathlib.Core.Path.{refl}
 use Prim.Native.Nat.{ℕ, _-_}
-use Rattle.floats.specs.Names.{add32}
+use Rattle.floats.specs.Names.{add32, minusZero32}
 use lib.Ieee.{Float}
 use Rattle.sequences.specs.Walk.{Walked, walked-none, walked-more, walked-all}
-use Rattle.pitch.specs.Partials.{minusNil, sumOf}
+use Rattle.pitch.specs.Partials.{sumOf}
 use Rattle.pitch.proofs.harmonics.sum.Statement.{statement}
 use Rattle.pitch.proofs.harmonics.sum.Tie as tie
 
 abbrev Inv-loop : tie.InvT-loop
-Inv-loop weights sum₀ i₀ sum i = Walked (λ (i : ℕ) (w s : Float). add32 s w) 24 weights minusNil i sum
+Inv-loop weights sum₀ i₀ sum i = Walked (λ (i : ℕ) (w s : Float). add32 s w) 24 weights minusZero32 i sum
 
 abbrev μ-loop : tie.MeasureT-loop
 μ-loop weights sum₀ i₀ sum i = 24 - i

@@ -1,5 +1,5 @@
 -- `register_strength` meets its contract.
-use Rattle.pitch.specs.Register.{strengthOf}
+use Rattle.pitch.specs.Register.{registerStrength}
 use borrow.Author.Needs.{needs}
 use Rattle.pitch.proofs.registers.register_strength.Statement.{statement}
 use Rattle.pitch.proofs.registers.register_strength.Tie as tie
@@ -8,7 +8,7 @@ register-height-requires : tie.Need-register-height-requires
 register-height-requires c κs = search needs
 
 returns : tie.Need-returns
-unfolding strengthOf
+unfolding registerStrength
 returns c = rw (c .register-height .ensures)
 
 pub register-strength-spec : {M : Type 1} → statement M

@@ -6,8 +6,17 @@ use borrow.Author.Needs.{needs}
 use Rattle.script.proofs.body.body_of.Statement.{statement}
 use Rattle.script.proofs.body.body_of.Tie as tie
 
-length-of-requires : tie.Need-length-of-requires
-length-of-requires c κs = search needs
+sub-v : tie.Need-sub-v
+sub-v c = search needs
+
+part-v-start : tie.Need-part-v-start
+part-v-start c = search needs
+
+part-v-end : tie.Need-part-v-end
+part-v-end c = search needs
+
+row-of-requires : tie.Need-row-of-requires
+row-of-requires c κs = search needs
 
 shared-slice-read-length-said : tie.Need-shared-slice-read-length-said
 shared-slice-read-length-said c = search needs
@@ -20,29 +29,14 @@ length-said-requires c κs = search needs
 
 returns : tie.Need-returns
 unfolding bodyOf
-returns c = rw (← c .before .length-said .ensures, ← c .before .before .before .before .length-of .ensures, ne-eqb _ _ (c .if1 .taken))
+returns c = rw (← c .before .length-said .ensures, ← c .before .before .before .before .row-of .ensures .0, ne-eqb _ _ (c .if1 .taken))
 
 sub-if2 : tie.Need-sub-if2
 sub-if2 c = search needs
 
 returns-2 : tie.Need-returns-2
 unfolding bodyOf
-returns-2 c = rw (← c .before .before .length-said .ensures, ← c .before .before .before .before .before .length-of .ensures, eq-eqb _ _ (c .before .if1 .left), lt-leb _ _ (c .if2 .taken))
-
-sub-v : tie.Need-sub-v
-sub-v c = search needs
-
-part-v-start : tie.Need-part-v-start
-part-v-start c = search needs
-
-part-v-end : tie.Need-part-v-end
-part-v-end c = search needs
-
-is-lawful-requires : tie.Need-is-lawful-requires
-is-lawful-requires c κs = search needs
-
-field-of-requires : tie.Need-field-of-requires
-field-of-requires c κs = search needs
+returns-2 c = rw (← c .before .before .length-said .ensures, ← c .before .before .before .before .before .row-of .ensures .0, eq-eqb _ _ (c .before .if1 .left), lt-leb _ _ (c .if2 .taken))
 
 add-t20 : tie.Need-add-t20
 add-t20 c = search needs
@@ -50,31 +44,31 @@ add-t20 c = search needs
 returns-3 : tie.Need-returns-3
 unfolding bodyOf
 returns-3 c =
-    let s = c .before .before .before .before .before .before .before .before .before .before .before .args .s .now in
-    rw (← c .before .before .before .before .before .before .length-said .ensures, ← c .before .before .before .before .before .before .before .before .before .length-of .ensures, eq-eqb _ _ (c .before .before .before .before .before .if1 .left), le-leb _ _ (c .before .before .before .before .if2 .left), ← (rw (rest 3 s) at (c .before .before .is-lawful .ensures)), c .before .if3 .taken, rw (rest 3 s) at (c .field-of .ensures))
+    let s = c .before .before .before .before .before .before .before .before .before .args .s .now in
+    let row = rw (rest 3 s) at (c .before .before .before .before .before .before .row-of .ensures) in
+    rw (← c .before .before .before .length-said .ensures, ← row .0, eq-eqb _ _ (c .before .before .if1 .left), le-leb _ _ (c .before .if2 .left), ← row .1, c .if3 .taken, ← row .2)
 
 returns-4 : tie.Need-returns-4
 unfolding bodyOf
 returns-4 c =
-    let s = c .before .before .before .before .before .before .before .before .before .before .args .s .now in
-    rw (← c .before .before .before .before .before .length-said .ensures, ← c .before .before .before .before .before .before .before .before .length-of .ensures, eq-eqb _ _ (c .before .before .before .before .if1 .left), le-leb _ _ (c .before .before .before .if2 .left), ← (rw (rest 3 s) at (c .before .is-lawful .ensures)), c .if3 .left)
+    let s = c .before .before .before .before .before .before .before .before .before .args .s .now in
+    let row = rw (rest 3 s) at (c .before .before .before .before .before .before .row-of .ensures) in
+    rw (← c .before .before .before .length-said .ensures, ← row .0, eq-eqb _ _ (c .before .before .if1 .left), le-leb _ _ (c .before .if2 .left), ← row .1, c .if3 .left)
 
 pub body-of-spec : {M : Type 1} → statement M
 body-of-spec =
     tie.close
     (tie.spec
-    length-of-requires
+    sub-v
+    part-v-start
+    part-v-end
+    row-of-requires
     shared-slice-read-length-said
     shared-slice-read-length-said-2
     length-said-requires
     returns
     sub-if2
     returns-2
-    sub-v
-    part-v-start
-    part-v-end
-    is-lawful-requires
-    field-of-requires
     add-t20
     returns-3
     returns-4)

@@ -3,7 +3,7 @@ use mathlib.Core.Path.{sym, ap, _∙_}
 use lib.Ieee.{Float}
 use Rattle.settings.specs.declared.Shape.{Shape}
 use Rattle.settings.specs.declared.Shape.the-variants.{Sprinkle, Cloud}
-use Rattle.settings.specs.Envelope.{hopFloorOf, byShape, envelopeOf}
+use Rattle.settings.specs.Envelope.{hopFloorOf, byShape, contourOf}
 use borrow.Author.Needs.{needs}
 use Rattle.settings.proofs.envelopes.envelope.Statement.{statement}
 use Rattle.settings.proofs.envelopes.envelope.Tie as tie
@@ -24,7 +24,7 @@ cloud-requires : tie.Need-cloud-requires
 cloud-requires c κs = search needs
 
 returns : tie.Need-returns
-unfolding envelopeOf byShape
+unfolding contourOf byShape
 returns c =
     let args = c .before .before .before .before .args in
     c .sprinkle .ensures
@@ -32,7 +32,7 @@ returns c =
     ∙ sym (ap (λ (shape : Shape). byShape shape (args .config) (args .index) (hopFloorOf (args .config .«hop_samples») (args .sample-rate))) (c .before .enum-told .given .1))
 
 returns-2 : tie.Need-returns-2
-unfolding envelopeOf byShape
+unfolding contourOf byShape
 returns-2 c =
     let args = c .before .before .before .before .args in
     c .cloud .ensures

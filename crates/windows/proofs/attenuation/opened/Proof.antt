@@ -4,13 +4,13 @@ use mathlib.Core.Path.{ap, _∙_}
 use Prim.Native.Nat.{_-_}
 use Rattle.sequences.specs.Walk.{Walked, walked-none, walked-more, walked-all}
 use Rattle.floats.specs.Choose.{max}
-use Rattle.floats.specs.Names.{nil}
+use Rattle.floats.specs.Names.{zero32}
 use Rattle.windows.specs.Attenuation.{opening, openedBy}
 use Rattle.windows.proofs.attenuation.opened.Statement.{statement}
 use Rattle.windows.proofs.attenuation.opened.Tie as tie
 
 abbrev Inv-loop : tie.InvT-loop
-Inv-loop log2-hz windows widest₀ i₀ widest i = Walked (opening log2-hz) 192 windows nil i widest
+Inv-loop log2-hz windows widest₀ i₀ widest i = Walked (opening log2-hz) 192 windows zero32 i widest
 
 abbrev μ-loop : tie.MeasureT-loop
 μ-loop log2-hz windows widest₀ i₀ widest i = 192 - i

@@ -1,0 +1,21 @@
+-- `after` meets its contract: one test.
+use borrow.Author.Needs.{needs}
+use borrow.Author.Tests.{eq-eqb, ne-eqb}
+use Rattle.sequences.specs.Pick.{pick}
+use Rattle.oracle_replay.specs.Late.{afterOf}
+use Rattle.oracle_replay.proofs.late.after.Statement.{statement}
+use Rattle.oracle_replay.proofs.late.after.Tie as tie
+
+counted-requires : tie.Need-counted-requires
+counted-requires c κs = search needs
+
+returns : tie.Need-returns
+unfolding afterOf pick
+returns c = rw (eq-eqb _ _ (c .before .if1 .taken)) (c .counted .ensures)
+
+returns-2 : tie.Need-returns-2
+unfolding afterOf pick
+returns-2 c = rw (ne-eqb _ _ (c .if1 .left))
+
+pub after-spec : {M : Type 1} → statement M
+after-spec = tie.close (tie.spec counted-requires returns returns-2)
