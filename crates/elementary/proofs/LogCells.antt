@@ -9,33 +9,33 @@ use lib.Dec.{T, leb, ltb, leb→le}
 use lib.Ieee.Fits.{and-l, and-r}
 use borrow.Author.Tests.{lt-ltb}
 use Rattle.sequences.specs.All.{all, all-at}
-use Rattle.elementary.specs.LogCells.{topOf, tops, slopeOf, slopes, bendOf, bends}
+use Rattle.elementary.specs.LogCells.{logTop, logTops, logSlope, logSlopes, logBend, logBends}
 use Rattle.elementary.specs.Log2.{fallOf, cellOf, fractionOf}
 
 -- ---- the rule of the table: a cell starts at 0 or above, and ends where the next starts or below; the last ends below 1
 unfoldable starts : ℕ → Bool
-starts i = leb (fallOf i 131071) (topOf i)
+starts i = leb (fallOf i 131071) (logTop i)
 
 unfoldable ends : ℕ → Bool
-ends i = leb (topOf i) (cond (ltb i 63) (cellOf (suc i) 131071) 4611686018427387903)
+ends i = leb (logTop i) (cond (ltb i 63) (cellOf (suc i) 131071) 4611686018427387903)
 
 unfoldable joins : ℕ → Bool
 joins i = starts i && ends i
 
 all-join : T (all joins 64)
-unfolding joins starts ends cellOf fallOf topOf tops slopeOf slopes bendOf bends
+unfolding joins starts ends cellOf fallOf logTop logTops logSlope logSlopes logBend logBends
 all-join = tt
 
-start : (i : ℕ) → i < 64 → fallOf i 131071 ≤ topOf i
+start : (i : ℕ) → i < 64 → fallOf i 131071 ≤ logTop i
 unfolding joins starts
 start i h = leb→le _ _ (and-l (starts i) (ends i) (all-at joins 64 all-join i h))
 
-end : (i : ℕ) → i < 64 → topOf i ≤ cond (ltb i 63) (cellOf (suc i) 131071) 4611686018427387903
+end : (i : ℕ) → i < 64 → logTop i ≤ cond (ltb i 63) (cellOf (suc i) 131071) 4611686018427387903
 unfolding joins ends
 end i h = leb→le _ _ (and-r (starts i) (ends i) (all-at joins 64 all-join i h))
 
-meet : (i : ℕ) → i < 63 → topOf i ≤ cellOf (suc i) 131071
-meet i h = subst (λ (b : Bool). topOf i ≤ cond b (cellOf (suc i) 131071) 4611686018427387903) (lt-ltb i 63 h) (end i (next i h))
+meet : (i : ℕ) → i < 63 → logTop i ≤ cellOf (suc i) 131071
+meet i h = subst (λ (b : Bool). logTop i ≤ cond b (cellOf (suc i) 131071) 4611686018427387903) (lt-ltb i 63 h) (end i (next i h))
   where
     next : (i : ℕ) → i < 63 → i < 64
     next i h = omega arith
@@ -46,54 +46,54 @@ plus k h = omega arith
 
 fall-mono : (i : ℕ) {t u : ℕ} → t ≤ u → fallOf i t ≤ fallOf i u
 unfolding fallOf
-fall-mono i h = mul-le-mul h (plus (slopeOf i) (mul-le-mul-left (bendOf i) h))
+fall-mono i h = mul-le-mul h (plus (logSlope i) (mul-le-mul-left (logBend i) h))
 
 cell-mono : (i : ℕ) {t u : ℕ} → t ≤ u → cellOf i u ≤ cellOf i t
 unfolding cellOf
-cell-mono i h = take (topOf i) (fall-mono i h)
+cell-mono i h = take (logTop i) (fall-mono i h)
   where
     take : (k : ℕ) {a b : ℕ} → a ≤ b → k - b ≤ k - a
     take k h = omega arith
 
-cell-top : (i t : ℕ) → cellOf i t ≤ topOf i
+cell-top : (i t : ℕ) → cellOf i t ≤ logTop i
 unfolding cellOf
-cell-top i t = less (topOf i) (fallOf i t)
+cell-top i t = less (logTop i) (fallOf i t)
   where
     less : (a b : ℕ) → a - b ≤ a
     less a b = omega arith
 
-chain : (i j : ℕ) → i < j → j < 64 → topOf i ≤ cellOf j 131071
+chain : (i j : ℕ) → i < j → j < 64 → logTop i ≤ cellOf j 131071
 chain i zero h k = absurd (not-suc-le-zero h)
 chain i (suc j) h k = elim (eq-or-lt-of-le (le-of-suc-le-suc h)) [
-  | inl e ↦ subst⁻¹ (λ (n : ℕ). topOf n ≤ cellOf (suc j) 131071) e (meet j (le-of-suc-le-suc k))
+  | inl e ↦ subst⁻¹ (λ (n : ℕ). logTop n ≤ cellOf (suc j) 131071) e (meet j (le-of-suc-le-suc k))
   | inr l ↦ le-trans (chain i j l (before j k)) (le-trans (cell-top j 131071) (meet j (le-of-suc-le-suc k)))
 ]
   where
     before : (j : ℕ) → suc j < 64 → j < 64
     before j h = omega arith
 
-pub top-le : (i : ℕ) → i < 64 → topOf i ≤ 4611686018427387903
+pub top-le : (i : ℕ) → i < 64 → logTop i ≤ 4611686018427387903
 top-le i h = elim (eq-or-lt-of-le (le-of-suc-le-suc h)) [
-  | inl e ↦ subst⁻¹ (λ (n : ℕ). topOf n ≤ 4611686018427387903) e last
+  | inl e ↦ subst⁻¹ (λ (n : ℕ). logTop n ≤ 4611686018427387903) e last
   | inr l ↦ le-trans (chain i 63 l (leb→le 64 64 tt)) (le-trans (cell-top 63 131071) last)
 ]
   where
-    last : topOf 63 ≤ 4611686018427387903
+    last : logTop 63 ≤ 4611686018427387903
     last = end 63 (leb→le 64 64 tt)
 
 -- ---- what the code's products and sums stay below: each is at most the whole fall, and that is at most the top
-pub fall-le : (i t : ℕ) → i < 64 → t ≤ 131071 → fallOf i t ≤ topOf i
+pub fall-le : (i t : ℕ) → i < 64 → t ≤ 131071 → fallOf i t ≤ logTop i
 fall-le i t h k = le-trans (fall-mono i k) (start i h)
 
-pub inner-le : (i t : ℕ) → i < 64 → t ≤ 131071 → slopeOf i + bendOf i * t ≤ topOf i
+pub inner-le : (i t : ℕ) → i < 64 → t ≤ 131071 → logSlope i + logBend i * t ≤ logTop i
 unfolding fallOf
-inner-le i t h k = le-trans (le-trans (plus (slopeOf i) (mul-le-mul-left (bendOf i) k)) (times 131071 (slopeOf i + bendOf i * 131071) (leb→le 1 131071 tt))) (start i h)
+inner-le i t h k = le-trans (le-trans (plus (logSlope i) (mul-le-mul-left (logBend i) k)) (times 131071 (logSlope i + logBend i * 131071) (leb→le 1 131071 tt))) (start i h)
   where
     times : (a b : ℕ) → 1 ≤ a → b ≤ a * b
     times a b h = le-trans (le-of-eq (sym (one-mul b))) (mul-le-mul-right b h)
 
-pub bend-le : (i t : ℕ) → i < 64 → t ≤ 131071 → bendOf i * t ≤ topOf i
-bend-le i t h k = le-trans (more (bendOf i * t) (slopeOf i)) (inner-le i t h k)
+pub bend-le : (i t : ℕ) → i < 64 → t ≤ 131071 → logBend i * t ≤ logTop i
+bend-le i t h k = le-trans (more (logBend i * t) (logSlope i)) (inner-le i t h k)
   where
     more : (a b : ℕ) → a ≤ b + a
     more a b = omega arith

@@ -9,15 +9,15 @@ use mathlib.Core.Bool.{true, false, cond}
 use lib.IntN.{pos}
 use lib.Ieee.{Float, nan, inf, fin, binary32, isNan, lt, eq, ofInt, toBits}
 use Rattle.floats.specs.Names.{f32, add32, sub32, mul32}
-use Rattle.elementary.specs.LogCells.{topOf, slopeOf, bendOf}
+use Rattle.elementary.specs.LogCells.{logTop, logSlope, logBend}
 use Rattle.elementary.specs.Rung.{rungOf, digitsOf}
 
 -- the cell's parabola, t steps before the cell's last place (LogCells.antt)
 unfoldable pub fallOf : ℕ → ℕ → ℕ
-fallOf i t = t * (slopeOf i + bendOf i * t)
+fallOf i t = t * (logSlope i + logBend i * t)
 
 unfoldable pub cellOf : ℕ → ℕ → ℕ
-cellOf i t = topOf i - fallOf i t
+cellOf i t = logTop i - fallOf i t
 
 unfoldable pub fractionOf : ℕ → ℕ
 fractionOf p = cellOf (p / 131072) (131071 - p % 131072) / 274877906944

@@ -1,7 +1,7 @@
 // The 64 cells of a logarithm's fraction, as a `match`, which becomes read-only tables.
 ghost use mathlib.Core.Path.{_≡_};
 ghost use Prim.Native.Nat.{_<_};
-ghost use Rattle.elementary.specs.LogCells.{topOf, slopeOf, bendOf};
+ghost use Rattle.elementary.specs.LogCells.{logTop, logSlope, logBend};
 
 pub struct Cell {
     pub top: u64,
@@ -11,7 +11,7 @@ pub struct Cell {
 
 pub fn cell_of(i: u64) -> Cell
     requires { ⌜ i < 64 ⌝ }
-    ensures { λ r. ⌜ (r .top ≡ topOf i) × (r .slope ≡ slopeOf i) × (r .bend ≡ bendOf i) ⌝ }
+    ensures { λ r. ⌜ (r .top ≡ logTop i) × (r .slope ≡ logSlope i) × (r .bend ≡ logBend i) ⌝ }
 {
     match i {
         0 => Cell {

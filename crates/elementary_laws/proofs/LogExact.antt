@@ -10,7 +10,7 @@ use lib.Ieee.Bits.{ofBits-toBits}
 use lib.Ieee.Fits.{add-fits, ofInt-fits, nan-fits, inf-fits}
 use Rattle.sequences.specs.All.{all, all-at}
 use Rattle.elementary.specs.Rung.{rungOf, digitsOf}
-use Rattle.elementary.specs.LogCells.{tops, topOf, slopes, slopeOf, bends, bendOf}
+use Rattle.elementary.specs.LogCells.{logTops, logTop, logSlopes, logSlope, logBends, logBend}
 use Rattle.elementary.specs.Log2.{fallOf, cellOf, fractionOf, joinedOf, logOf, log2Of}
 use Rattle.floats_laws.proofs.Rising.{nought}
 
@@ -25,7 +25,7 @@ unfoldable exact : ℕ → Bool
 exact k = eqb (toBits binary32 (log2Of (power k))) (toBits binary32 (exponent k))
 
 all-exact : T (all exact 277)
-unfolding exact log2Of logOf rungOf digitsOf joinedOf fractionOf cellOf fallOf topOf tops slopeOf slopes bendOf bends isNan lt eq sub add neg sum round size span climb units odd trailingZeros leadingZeros ofInt ofBits ofFields mul toBits
+unfolding exact log2Of logOf rungOf digitsOf joinedOf fractionOf cellOf fallOf logTop logTops logSlope logSlopes logBend logBends isNan lt eq sub add neg sum round size span climb units odd trailingZeros leadingZeros ofInt ofBits ofFields mul toBits
 all-exact = tt
 
 pub log2-fits : (x : Float) → T (fits binary32 (log2Of x))

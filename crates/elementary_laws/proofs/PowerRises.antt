@@ -18,7 +18,7 @@ use Rattle.floats_laws.proofs.Rules.{add-number, finite-number, between-finite,
 use Rattle.floats_laws.proofs.Rising.{add-rises, mul-rises, nought}
 use Rattle.floats_laws.proofs.ToBits.{toBits-mono}
 use Rattle.powers.specs.Placed.{edged, placed, placed32}
-use Rattle.powers.specs.PowerCells.{starts, slopes, bends, startOf, slopeOf, bendOf}
+use Rattle.powers.specs.PowerCells.{powerStarts, powerSlopes, powerBends, powerStart, powerSlope, powerBend}
 use Rattle.powers.specs.Power.{lifted, mantissa, powerBits, power, exp2, exp, pow8, pow10}
 use Rattle.powers.proofs.Edges.{upper-edge, lower-edge, Inside, edged-rises}
 use Rattle.powers.proofs.PlacedRises.{placed-climbs, placed-rises, placed-under}
@@ -132,19 +132,19 @@ module _ (c : Float) (B : Base c) where
 
 -- ---- the four bases
 base2 : Base (ofBits binary64 0x3ff0000000000000)
-unfolding power edged lifted powerBits placed mantissa startOf slopeOf bendOf starts slopes bends add mul sum round size span climb units odd ofBits ofFields toBits lt isNan trailingZeros
+unfolding power edged lifted powerBits placed mantissa powerStart powerSlope powerBend powerStarts powerSlopes powerBends add mul sum round size span climb units odd ofBits ofFields toBits lt isNan trailingZeros
 base2 = record { above-zero = tt; lowest = (tt, tt); highest = (tt, tt); at-zero = refl; at-minus-zero = refl }
 
 baseE : Base (ofBits binary64 0x3ff71547652b82fe)
-unfolding power edged lifted powerBits placed mantissa startOf slopeOf bendOf starts slopes bends add mul sum round size span climb units odd ofBits ofFields toBits lt isNan trailingZeros
+unfolding power edged lifted powerBits placed mantissa powerStart powerSlope powerBend powerStarts powerSlopes powerBends add mul sum round size span climb units odd ofBits ofFields toBits lt isNan trailingZeros
 baseE = record { above-zero = tt; lowest = (tt, tt); highest = (tt, tt); at-zero = refl; at-minus-zero = refl }
 
 base8 : Base (ofBits binary64 0x4008000000000000)
-unfolding power edged lifted powerBits placed mantissa startOf slopeOf bendOf starts slopes bends add mul sum round size span climb units odd ofBits ofFields toBits lt isNan trailingZeros
+unfolding power edged lifted powerBits placed mantissa powerStart powerSlope powerBend powerStarts powerSlopes powerBends add mul sum round size span climb units odd ofBits ofFields toBits lt isNan trailingZeros
 base8 = record { above-zero = tt; lowest = (tt, tt); highest = (tt, tt); at-zero = refl; at-minus-zero = refl }
 
 base10 : Base (ofBits binary64 0x400a934f0979a371)
-unfolding power edged lifted powerBits placed mantissa startOf slopeOf bendOf starts slopes bends add mul sum round size span climb units odd ofBits ofFields toBits lt isNan trailingZeros
+unfolding power edged lifted powerBits placed mantissa powerStart powerSlope powerBend powerStarts powerSlopes powerBends add mul sum round size span climb units odd ofBits ofFields toBits lt isNan trailingZeros
 base10 = record { above-zero = tt; lowest = (tt, tt); highest = (tt, tt); at-zero = refl; at-minus-zero = refl }
 
 pub exp2-like : PowerLike exp2

@@ -15,7 +15,7 @@ use Rattle.floats_laws.proofs.Rules.{le-trans}
 use Rattle.sequences.specs.All.{all, all-at}
 use Rattle.floats_laws.proofs.Same.{same, same→≡}
 use Rattle.powers.specs.Placed.{edged, placed}
-use Rattle.powers.specs.PowerCells.{starts, slopes, bends, startOf, slopeOf, bendOf}
+use Rattle.powers.specs.PowerCells.{powerStarts, powerSlopes, powerBends, powerStart, powerSlope, powerBend}
 use Rattle.powers.specs.Power.{lifted, mantissa, powerBits, power, exp2, pow10, dbToGain}
 use Rattle.powers.proofs.Edges.{upper-edge, lower-edge}
 use Rattle.powers.proofs.PowerLike.{one, in-unit, at-most-one}
@@ -26,7 +26,7 @@ unfoldable exactAt : ℕ → Bool
 exactAt n = same (exp2 (ofInt binary32 (minus n 149))) (fin false 1 (minus n 149))
 
 exact-tested : T (all exactAt 277)
-unfolding exactAt exp2 power edged lifted powerBits placed mantissa startOf slopeOf bendOf starts slopes bends ofInt add mul sum round size span climb units odd ofBits ofFields toBits lt isNan trailingZeros
+unfolding exactAt exp2 power edged lifted powerBits placed mantissa powerStart powerSlope powerBend powerStarts powerSlopes powerBends ofInt add mul sum round size span climb units odd ofBits ofFields toBits lt isNan trailingZeros
 exact-tested = tt
 
 pub exp2-exact : (n : ℕ) → n < 277 → exp2 (ofInt binary32 (minus n 149)) ≡ fin false 1 (minus n 149)
@@ -49,7 +49,7 @@ pow10-fits x = power-fits (ofBits binary64 0x400a934f0979a371) x
 
 -- ---- 10^x for x from -3 to 0: at least the first f32 above 0.00099, at most 1
 at-minus-three : T (le (ofBits binary32 0x3a81c2e4) (pow10 (fin true 3 (pos 0))))
-unfolding pow10 power edged lifted powerBits placed mantissa startOf slopeOf bendOf starts slopes bends add mul sum round size span climb units odd ofBits ofFields toBits lt le eq isNan trailingZeros
+unfolding pow10 power edged lifted powerBits placed mantissa powerStart powerSlope powerBend powerStarts powerSlopes powerBends add mul sum round size span climb units odd ofBits ofFields toBits lt le eq isNan trailingZeros
 at-minus-three = tt
 
 pub pow10-from-minus-three : (x : Float) → T (le (fin true 3 (pos 0)) x) → T (le x nought) → T (le (ofBits binary32 0x3a81c2e4) (pow10 x)) × T (le (pow10 x) one)

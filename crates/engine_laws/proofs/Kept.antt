@@ -12,14 +12,14 @@ use Rattle.floats_laws.proofs.Rising.{nought}
 use Rattle.pool.specs.declared.Particle.{Particle}
 use Rattle.pool.specs.declared.Retired.{Retired}
 use Rattle.pool.specs.declared.Retired.the-variants.{Not, At}
-use Rattle.pool.specs.Pool.{firstOf, retiredOf, retireOne, retireBoundOne, retunedOf, retuneOne}
+use Rattle.pool.specs.Pool.{firstRetirement, retiredOf, retireOne, retireBoundOne, retunedOf, retuneOne}
 use Rattle.frame_laws.proofs.Windowed.{Fair}
 use Rattle.engine_laws.proofs.Sound.{Fit, FitPlace}
 
 at-of : (a b : ℕ) → At a ≡ At b → a ≡ b
-at-of a b p = ap (λ (r : Retired). firstOf r 0) p
+at-of a b p = ap (λ (r : Retired). firstRetirement r 0) p
 
-first-in : (birth now : ℕ) (r : Retired) → birth ≤ now → ((t : ℕ) → r ≡ At t → (birth ≤ t) × (t ≤ now)) → (birth ≤ firstOf r now) × (firstOf r now ≤ now)
+first-in : (birth now : ℕ) (r : Retired) → birth ≤ now → ((t : ℕ) → r ≡ At t → (birth ≤ t) × (t ≤ now)) → (birth ≤ firstRetirement r now) × (firstRetirement r now ≤ now)
 first-in birth now Not h k = (h, le-refl now)
 first-in birth now (At t) h k = k t refl
 

@@ -16,7 +16,7 @@ use Rattle.floats.specs.Names.{f32, zero32, one}
 use Rattle.pool.specs.declared.Particle.{Particle}
 use Rattle.settings.specs.declared.Config.{Config}
 use Rattle.settings.specs.Settings.{maxHop}
-use Rattle.settings.specs.Mending.{partialsOf, phaseOf, mendedOf}
+use Rattle.settings.specs.Mending.{partialsHeld, phaseOf, mendedOf}
 use Rattle.settings_laws.proofs.Again.{held-fits, phase-fits, whole-phase, mended-but-phase, mended-again}
 use Rattle.settings_laws.specs.Phase.{withPhase}
 use Rattle.sources.specs.declared.Source.{Source}
@@ -36,8 +36,8 @@ use Rattle.engine_laws.proofs.Weighed.{Weighed}
 use Rattle.floats_laws.proofs.Level.{level}
 
 -- ---- the settings
-partials-in : (n : ℕ) → (1 ≤ partialsOf n) × (partialsOf n ≤ 24)
-unfolding partialsOf
+partials-in : (n : ℕ) → (1 ≤ partialsHeld n) × (partialsHeld n ≤ 24)
+unfolding partialsHeld
 partials-in n =
     let P : ℕ → Type 0 = λ k. (1 ≤ k) × (k ≤ 24) in
     in-case P (ltb n 1) _ _ (λ q. (omega arith, omega arith))

@@ -18,7 +18,7 @@ use Rattle.settings.specs.declared.Config.{Config}
 use Rattle.settings.specs.declared.Direction.{Direction}
 use Rattle.settings.specs.declared.Shape.{Shape}
 use Rattle.settings.specs.declared.Shape.the-variants.{Sprinkle, Cloud}
-use Rattle.settings.specs.Envelope.{hopFloorOf, sprinkleOf, cloudOf, cloudLifetimeOf, rawOf, byShape, contourOf}
+use Rattle.settings.specs.Envelope.{hopFloorOf, sprinkleContour, cloudContour, cloudLifetimeOf, rawOf, contourBy, contourOf}
 use Rattle.births.specs.Births.{registerBy, powerBy}
 
 abbrev pub Power : ℕ → Type 0
@@ -40,8 +40,8 @@ unfolding registerBy registerOf octaveOf
 octave-fits Sprinkle index hz maxHz direction = add-fits binary32 _ _
 octave-fits Cloud index hz maxHz direction = ofBits-fits binary32 0
 
-shape-lifetime : (shape : Shape) (c : Config) (index : ℕ) (floor : Float) → T (fits binary32 floor) → T (fits binary32 (byShape shape c index floor .lifetime))
-unfolding byShape sprinkleOf cloudOf cloudLifetimeOf rawOf
+shape-lifetime : (shape : Shape) (c : Config) (index : ℕ) (floor : Float) → T (fits binary32 floor) → T (fits binary32 (contourBy shape c index floor .lifetime))
+unfolding contourBy sprinkleContour cloudContour cloudLifetimeOf rawOf
 shape-lifetime Sprinkle c index floor f = add-fits binary32 _ _
 shape-lifetime Cloud c index floor f =
     let m = max-fits binary32 (f32 0x3d75c28f) floor (ofBits-fits binary32 0x3d75c28f) f in

@@ -20,7 +20,7 @@ use Rattle.floats_laws.proofs.Spans.{least-upto}
 use Rattle.floats_laws.proofs.Mag.{Upto}
 use Rattle.floats_laws.proofs.Fractions.{Under}
 use Rattle.settings.specs.declared.Config.{Config}
-use Rattle.settings.specs.Mending.{finiteOr, heldTo, rateOf, mendedOf}
+use Rattle.settings.specs.Mending.{finiteOr, heldTo, rateHeld, mendedOf}
 use Rattle.settings_laws.proofs.Again.{finite-or, phase-within, phase-fits}
 use Rattle.timing.specs.Streams.{movedOf, referenceOf}
 use Rattle.timing_laws.proofs.Lanes.{Streamed, new-streamed, moved-streamed, prepared-streamed}
@@ -45,12 +45,12 @@ pub record Ranged (e : Engine) : Type 0 where
   pub opportunity : e .next .opportunity ≤ opportunityMost
 
 -- ---- the settings
-rate-upto : (x : Float) → Upto (rateOf x) 32
+rate-upto : (x : Float) → Upto (rateHeld x) 32
 unfolding heldTo ofBits
 rate-upto x =
     let y = finiteOr x one in
     let n = is-false (isNan y) (finite-number binary32 y (finite-or x one tt)) in
-    least-upto (rateOf x) 101 32 (clamp-least y (f32 0x3c23d70a) (f32 0x42000000) 101 n (lit≤ tt) (lit≤ tt)) (clamp-mag y (f32 0x3c23d70a) (f32 0x42000000) 32 n (lit≤ tt) (lit≤ tt))
+    least-upto (rateHeld x) 101 32 (clamp-least y (f32 0x3c23d70a) (f32 0x42000000) 101 n (lit≤ tt) (lit≤ tt)) (clamp-mag y (f32 0x3c23d70a) (f32 0x42000000) 32 n (lit≤ tt) (lit≤ tt))
 
 module _ (c : Config) (h : Settled c) where
   settled-rate : Upto (c .«rate_hz») 32

@@ -20,7 +20,7 @@ use Rattle.pool.specs.declared.Particle.{Particle}
 use Rattle.pool.specs.Pool.{freeParticle}
 use Rattle.settings.specs.declared.Config.{Config}
 use Rattle.settings.specs.Settings.{isSprinkle, defaultConfig, lawfulRate}
-use Rattle.settings.specs.Mending.{finiteOr, heldTo, partialsOf, phaseOf, mendedOf}
+use Rattle.settings.specs.Mending.{finiteOr, heldTo, partialsHeld, phaseOf, mendedOf}
 use Rattle.sources.specs.declared.Source.{Source}
 use Rattle.sources.specs.Sources.{noSource}
 use Rattle.floats_laws.proofs.Proportions.{nought-unit}
@@ -145,7 +145,7 @@ sound-retired e s = sound-mapped e _ s (held-retire-one (e .clock .sample))
 
 -- ---- new and reset
 default-mended : defaultConfig ≡ mendedOf defaultConfig
-unfolding mendedOf heldTo finiteOr phaseOf partialsOf remEuclid clamp rem add sum round ofBits lt eq abs pick
+unfolding mendedOf heldTo finiteOr phaseOf partialsHeld remEuclid clamp rem add sum round ofBits lt eq abs pick
 default-mended = refl
 
 pub no-source-formed : FormedSource noSource

@@ -21,7 +21,7 @@ use Rattle.floats_laws.proofs.Proportions.{i, i-fits, nought-fits, one-unit}
 use Rattle.draws.specs.Draws.{randomOf}
 use Rattle.draws.proofs.Drawn.{random-in}
 use Rattle.powers.specs.Placed.{edged, placed}
-use Rattle.powers.specs.PowerCells.{starts, slopes, bends, startOf, slopeOf, bendOf}
+use Rattle.powers.specs.PowerCells.{powerStarts, powerSlopes, powerBends, powerStart, powerSlope, powerBend}
 use Rattle.powers.specs.Power.{lifted, mantissa, powerBits, power, exp2, pow8}
 use Rattle.elementary_laws.proofs.PowerRises.{pow8-like}
 use Rattle.elementary_laws.proofs.PowerValues.{power-fits}
@@ -77,7 +77,7 @@ source-voiced slot s h f =
 -- ---- without one
 -- 8 to the 1 is 8, so the root of a phrase lies from 200 to 1,600 Hz
 eight : pow8 i ≡ f32 0x41000000
-unfolding pow8 power edged lifted powerBits placed mantissa startOf slopeOf bendOf starts slopes bends add mul sum round size span climb units odd ofBits ofFields toBits lt le eq isNan trailingZeros
+unfolding pow8 power edged lifted powerBits placed mantissa powerStart powerSlope powerBend powerStarts powerSlopes powerBends add mul sum round size span climb units odd ofBits ofFields toBits lt le eq isNan trailingZeros
 eight = refl
 
 ends : (mul32 (f32 0x43480000) i ≡ f32 0x43480000) × (mul32 (f32 0x43480000) (f32 0x41000000) ≡ f32 0x44c80000)

@@ -7,12 +7,12 @@ use Rattle.floats.specs.Names.{f32, add32, sub32, mul32, div32, zero32, one}
 use Rattle.powers.specs.Power.{exp}
 
 -- 1.0 - (-elapsed_seconds / TRANSITION_SECONDS).exp()
-unfoldable pub stepOf : Float → Float
-stepOf seconds = sub32 one (exp (div32 (neg seconds) (f32 0x3d4ccccd)))
+unfoldable pub activityStep : Float → Float
+activityStep seconds = sub32 one (exp (div32 (neg seconds) (f32 0x3d4ccccd)))
 
 -- self.activity += (target - self.activity) * step, where target is f32::from(active)
 unfoldable pub activityMoved : Float → Bool → Float → Float
-activityMoved before enabled seconds = add32 before (mul32 (sub32 (cond enabled one zero32) before) (stepOf seconds))
+activityMoved before enabled seconds = add32 before (mul32 (sub32 (cond enabled one zero32) before) (activityStep seconds))
 
 -- if !active && self.activity < 1e-6 { self.activity = 0.0; }
 unfoldable pub activityOf : Float → Bool → Float → Float

@@ -15,7 +15,7 @@ use Rattle.powers.specs.Power.{exp}
 use Rattle.powers.proofs.PowerLike.{in-unit}
 use Rattle.elementary_laws.proofs.PowerRises.{exp-like}
 use Rattle.elementary_laws.proofs.PowerValues.{power-fits}
-use Rattle.frame.specs.Frame.{stepOf, activityMoved, activityOf, accepted}
+use Rattle.frame.specs.Frame.{activityStep, activityMoved, activityOf, accepted}
 use Rattle.floats_laws.proofs.Proportions.{Proportion, nought-fits, nought-unit, rest-unit, risen-unit, fallen-unit}
 
 -- TRANSITION_SECONDS
@@ -49,8 +49,8 @@ module _ (seconds : Float) (p : T (fits binary32 seconds)) (a : T (accepted seco
       (quotient-number binary32 (neg seconds) transition (finite-number binary32 (neg seconds) (neg-finite binary32 seconds f)) tt transition-above) (quotient-number binary32 minus-nought transition tt tt transition-above))
       ending
 
-  step-unit : Proportion (stepOf seconds)
-  unfolding stepOf exp ofBits
+  step-unit : Proportion (activityStep seconds)
+  unfolding activityStep exp ofBits
   step-unit =
       let u = in-unit exp-like exponent exponent-most in
       rest-unit (record { held = power-fits _ exponent; least = u .0; most = u .1 })

@@ -42,7 +42,7 @@ use Rattle.settings.specs.declared.Direction.{Direction}
 use Rattle.settings.specs.declared.Direction.the-variants.{Forward, Reverse, Alternate}
 use Rattle.settings.specs.declared.Shape.{Shape}
 use Rattle.settings.specs.declared.Shape.the-variants.{Sprinkle, Cloud}
-use Rattle.settings.specs.Envelope.{sprinkleOf, cloudOf, cloudAttackOf, byShape, contourOf}
+use Rattle.settings.specs.Envelope.{sprinkleContour, cloudContour, cloudAttackOf, contourBy, contourOf}
 use Rattle.settings.specs.Settings.{maxHop, lawfulRate}
 use Rattle.settings.specs.Mending.{finiteOr, heldTo, mendedOf}
 use Rattle.settings_laws.proofs.Again.{finite-or, or-fits}
@@ -230,8 +230,8 @@ wide-size shape c w index =
     wide-of shape index (clamp x eighth eight) (clamp-fits binary32 x eighth eight f p q) (clamp-mag x eighth eight 8 (is-false (isNan x) n) (lit≤ tt) (lit≤ tt)) (clamp-least binary32 x eighth eight f p q n tt)
 
 -- ---- attack
-attack-fits : (shape : Shape) (c : Config) (index : ℕ) (floor : Float) → T (fits binary32 (byShape shape c index floor .attack))
-unfolding byShape sprinkleOf cloudOf cloudAttackOf
+attack-fits : (shape : Shape) (c : Config) (index : ℕ) (floor : Float) → T (fits binary32 (contourBy shape c index floor .attack))
+unfolding contourBy sprinkleContour cloudContour cloudAttackOf
 attack-fits Sprinkle c index floor = div-fits binary32 _ _
 attack-fits Cloud c index floor = by-direction (c .direction)
   where

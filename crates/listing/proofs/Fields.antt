@@ -21,7 +21,7 @@ use Rattle.script_steps.specs.declared.Reply.{Reply}
 use Rattle.script_steps.specs.declared.Reply.the-variants as R
 use Rattle.script_steps.specs.declared.Run.{Run}
 use Rattle.script_steps.specs.declared.Stepped.{Stepped}
-use Rattle.script_steps.specs.Steps.{doneOf, firedOf, quietOf, framedStep, frameOf, stepOf}
+use Rattle.script_steps.specs.Steps.{doneOf, firedOf, quietStep, framedStep, frameStep, stepOf}
 use Rattle.script_steps.specs.Replies.{replyOf, outcomeReply}
 use Rattle.script_steps.proofs.Together.{answered-is, outcome-is}
 use Rattle.listing.specs.declared.turns.Said.{Said}
@@ -44,24 +44,24 @@ module _ (run : Run) (e : Engine) (f : Frame) (r : Reply) where
   by-trigger t t′ is p q w = same (t .engine) (run .frame) (outcomeReply (t .outcome)) p q w ∙ outcome-is run (t .engine) (t .outcome) ∙ ap (firedOf run) is
 
   -- a call that always takes, and prints nothing
-  pub by-quiet : (d d′ : Engine) → d ≡ d′ → e ≡ d → f ≡ run .frame → r ≡ R.Quiet → left e f r ≡ quietOf run d′
-  by-quiet d d′ is p q w = same d (run .frame) R.Quiet p q w ∙ ap (quietOf run) is
+  pub by-quiet : (d d′ : Engine) → d ≡ d′ → e ≡ d → f ≡ run .frame → r ≡ R.Quiet → left e f r ≡ quietStep run d′
+  by-quiet d d′ is p q w = same d (run .frame) R.Quiet p q w ∙ ap (quietStep run) is
 
   module _ (g g′ : Framed) (is : g ≡ g′) (p : e ≡ g .engine) where
-    framed-as : left e f r ≡ frameOf run (g .engine) (g .frame) (g .answer) → left e f r ≡ framedStep run g′
+    framed-as : left e f r ≡ frameStep run (g .engine) (g .frame) (g .answer) → left e f r ≡ framedStep run g′
     framed-as h = h ∙ ap (framedStep run) is
 
     pub by-frame : (v : Values) → g .answer ≡ A.Taken → f ≡ g .frame → v ≡ valuesOf (g .engine) (g .frame .activity) → r ≡ R.Framed v → left e f r ≡ framedStep run g′
     by-frame v taken q w u =
         framed-as
         (same (g .engine) (g .frame) (R.Framed (valuesOf (g .engine) (g .frame .activity))) p q (u ∙ ap R.Framed w)
-        ∙ sym (ap (λ (a : Answer). frameOf run (g .engine) (g .frame) a) taken))
+        ∙ sym (ap (λ (a : Answer). frameStep run (g .engine) (g .frame) a) taken))
 
     pub by-no-frame : (x : Refusal) → g .answer ≡ A.Refused x → f ≡ run .frame → r ≡ R.Refused x → left e f r ≡ framedStep run g′
     by-no-frame x refused q u =
         framed-as
         (same (g .engine) (run .frame) (R.Refused x) p q u
-        ∙ sym (ap (λ (a : Answer). frameOf run (g .engine) (g .frame) a) refused))
+        ∙ sym (ap (λ (a : Answer). frameStep run (g .engine) (g .frame) a) refused))
 
 -- ---- the turn
 module _ (run : Run) (n : ℕ) (s : List ℕ) (read : Read) (is : read ≡ readOf s (eqb n 1)) where

@@ -22,7 +22,7 @@ use Rattle.script.specs.Field.{bodyOf, misplaced, unknown, readOf}
 use Rattle.mask_gains.specs.Bins.{logAt, logsOf, binTableOf}
 use Rattle.mask_gains.specs.Logs.{lawfulLogs}
 use Rattle.mask_laws.proofs.Prepared.{prepared-lawful}
-use Rattle.mask_files.specs.Masks.{standard, rateIn, rateBy, rateOf, binsOf, logsFor}
+use Rattle.mask_files.specs.Masks.{standard, rateIn, rateBy, scriptRate, binsOf, logsFor}
 
 -- a lawful rate of 32 bits
 pub record Rate (x : Float) : Type 0 where
@@ -64,8 +64,8 @@ by-body k s =
     (λ cut. rw (y, cut) standard-rate))
     (λ y. rw y standard-rate)
 
-pub script-rate : (s : List ℕ) → Rate (rateOf s)
-unfolding rateOf readOf
+pub script-rate : (s : List ℕ) → Rate (scriptRate s)
+unfolding scriptRate readOf
 script-rate s =
     by-case (eqb (length s) 0)
     (λ y. rw y standard-rate)
@@ -80,16 +80,16 @@ script-rate s =
 module _ (script : List ℕ) (size : ℕ) (some : 1 ≤ size) (most : size ≤ 16384) where
   pub logs-lawful : lawfulLogs (logsFor script size) ≡ true
   unfolding logsFor
-  logs-lawful = prepared-lawful (rateOf script) (script-rate script .single) (script-rate script .lawful) size some most (binsOf size) (omega arith)
+  logs-lawful = prepared-lawful (scriptRate script) (script-rate script .single) (script-rate script .lawful) size some most (binsOf size) (omega arith)
 
   pub logs-count : length (logsFor script size) ≡ binsOf size
   unfolding logsFor logsOf
-  logs-count = length-table (binsOf size) (logAt (div32 (rateOf script) (asFloat size)))
+  logs-count = length-table (binsOf size) (logAt (div32 (scriptRate script) (asFloat size)))
 
   -- what `prepare` leaves in as many places
-  pub prepared-is : (old new : List Float) (a : Answer) → length old ≡ binsOf size → (a, new) ≡ binTableOf (rateOf script) size old → new ≡ logsFor script size
+  pub prepared-is : (old new : List Float) (a : Answer) → length old ≡ binsOf size → (a, new) ≡ binTableOf (scriptRate script) size old → new ≡ logsFor script size
   unfolding binTableOf logsFor
   prepared-is old new a n e =
       ap (λ (x : Answer × List Float). x .1)
       (e ∙ sym (picked _ _ _ (script-rate script .lawful)) ∙ sym (passed _ _ _ (le-ltb _ _ some)) ∙ sym (passed _ _ _ (le-ltb _ _ most)) ∙ sym (picked _ _ _ (eq-eqb _ _ n)))
-      ∙ ap (logsOf (div32 (rateOf script) (asFloat size))) n
+      ∙ ap (logsOf (div32 (scriptRate script) (asFloat size))) n

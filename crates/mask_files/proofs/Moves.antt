@@ -16,12 +16,12 @@ use Rattle.mask_files.specs.declared.Made.{Made}
 use Rattle.mask_files.specs.declared.Made.the-variants as M
 use Rattle.mask_files.specs.declared.Step.{Step}
 use Rattle.mask_files.specs.declared.Walk.{Walk}
-use Rattle.mask_files.specs.Walk.{startOf, walkAfter, stepBy, reachOf, stepOf}
+use Rattle.mask_files.specs.Walk.{walkStart, walkAfter, stepBy, reachOf, walkStep}
 use Rattle.mask_files.proofs.Passing.{frame-takes}
 use Rattle.mask_files.proofs.Steps.{reached, reach-fits}
 
-pub start-inside : (script : List ℕ) (walk : Walk) → walk ≡ startOf → walk .at ≤ length script
-unfolding startOf
+pub start-inside : (script : List ℕ) (walk : Walk) → walk ≡ walkStart → walk .at ≤ length script
+unfolding walkStart
 start-inside script walk e = subst (λ (w : Walk). w .at ≤ length script) (sym e) (omega arith)
 
 is-record : Made → Bool
@@ -58,8 +58,8 @@ module _ (walk : Walk) (script : List ℕ) (inside : walk .at ≤ length script)
   by-line (L.Bad n k) e h = absurd (last-not (L.Bad n k) after h)
   by-line (L.End n) e h = absurd (last-not (L.End n) after h)
 
-  pub record-moves : (s : Step) (x : List Float) (y : List ℕ) → (s, x, y) ≡ stepOf walk script depth logs scratch out at → s .made ≡ M.Record after → (walk .at < s .walk .at) × (s .walk .at ≤ length script)
-  unfolding stepOf r
+  pub record-moves : (s : Step) (x : List Float) (y : List ℕ) → (s, x, y) ≡ walkStep walk script depth logs scratch out at → s .made ≡ M.Record after → (walk .at < s .walk .at) × (s .walk .at ≤ length script)
+  unfolding walkStep r
   record-moves s x y e h =
       let is : s ≡ step-at (r .turn .line) = ap (λ (z : Step × List Float × List ℕ). z .0) e in
       subst (λ (z : Step). (walk .at < z .walk .at) × (z .walk .at ≤ length script)) (sym is) (by-line (r .turn .line) refl (ap (λ (z : Step). z .made) (sym is) ∙ h))

@@ -16,7 +16,7 @@ use Rattle.mask_records.specs.Placed.{recordSize}
 use Rattle.mask_files.specs.declared.Measured.{Measured}
 use Rattle.mask_files.specs.declared.Walk.{Walk}
 use Rattle.mask_files.specs.Records.{filedOf}
-use Rattle.mask_files.specs.Walk.{startOf, measuredOf}
+use Rattle.mask_files.specs.Walk.{walkStart, measuredOf}
 use Rattle.mask_files.proofs.Records.{refused-not}
 use Rattle.mask_files.proofs.Passing.{filedFrom}
 use Rattle.mask_files.proofs.Steps.{Stands, leftOf, Recorded, Unrecorded, ends, full}
@@ -25,12 +25,12 @@ abbrev pub wholeOf : Float → List Float → List ℕ → List ℕ × Answer
 wholeOf depth logs script = filedOf depth logs (turnsOf script)
 
 -- ---- at the start all is left
-start-stands : (script : List ℕ) → Stands script startOf
-unfolding startOf
+start-stands : (script : List ℕ) → Stands script walkStart
+unfolding walkStart
 start-stands script = record { inside = omega arith; some = omega arith; few = omega arith }
 
-start-left : (depth : Float) (logs : List Float) (script : List ℕ) → leftOf depth logs script startOf ≡ wholeOf depth logs script
-unfolding startOf
+start-left : (depth : Float) (logs : List Float) (script : List ℕ) → leftOf depth logs script walkStart ≡ wholeOf depth logs script
+unfolding walkStart
 start-left depth logs script = let fuel : length script + 2 - 1 ≡ length script + 1 = omega arith in ap (λ (f : ℕ). filedFrom depth logs f fresh 1 script) fuel
 
 -- ---- the first pass
@@ -41,9 +41,9 @@ pub record Measuring (depth : Float) (logs : List Float) (script : List ℕ) (wa
   pub goes : leftOf depth logs script walk .1 ≡ wholeOf depth logs script .1
 
 module _ (depth : Float) (logs : List Float) (script : List ℕ) where
-  pub measuring-starts : (walk : Walk) → walk ≡ startOf → Measuring depth logs script walk 0
+  pub measuring-starts : (walk : Walk) → walk ≡ walkStart → Measuring depth logs script walk 0
   measuring-starts walk e =
-      let long : length (wholeOf depth logs script .0) ≡ length (leftOf depth logs script startOf .0) = ap (λ (x : List ℕ × Answer). length (x .0)) (sym (start-left depth logs script)) in
+      let long : length (wholeOf depth logs script .0) ≡ length (leftOf depth logs script walkStart .0) = ap (λ (x : List ℕ × Answer). length (x .0)) (sym (start-left depth logs script)) in
       subst (λ (w : Walk). Measuring depth logs script w 0) (sym e)
       (record {
         stands = start-stands script;
@@ -98,7 +98,7 @@ pub record Writing (depth : Float) (logs : List Float) (script o : List ℕ) (st
   pub goes : (p : List ℕ) (r : ℕ) → Put out p at r (leftOf depth logs script walk .0) → Put o p start r (wholeOf depth logs script .0)
 
 module _ (depth : Float) (logs : List Float) (script o : List ℕ) (start : ℕ) where
-  pub writing-starts : (walk : Walk) → walk ≡ startOf → wholeOf depth logs script .1 ≡ Taken → start + length (wholeOf depth logs script .0) ≤ length o → Writing depth logs script o start o walk start
+  pub writing-starts : (walk : Walk) → walk ≡ walkStart → wholeOf depth logs script .1 ≡ Taken → start + length (wholeOf depth logs script .0) ≤ length o → Writing depth logs script o start o walk start
   writing-starts walk e t h =
       let left = start-left depth logs script in
       subst (λ (w : Walk). Writing depth logs script o start o w start) (sym e)

@@ -32,7 +32,7 @@ use Rattle.mask_records.specs.declared.Written.{Written}
 use Rattle.mask_records.specs.declared.Written.the-variants as W
 use Rattle.mask_records.specs.Bytes.{recordOf}
 use Rattle.mask_records.specs.Placed.{recordSize}
-use Rattle.mask_records.specs.Written.{entriesOf, scratchOf, writtenOf}
+use Rattle.mask_records.specs.Written.{entriesOf, scratchOf, recordWritten}
 use Rattle.mask_records.proofs.Pairs.{record-length}
 use Rattle.mask_laws.proofs.Frames.{entries-count}
 use Rattle.mask_files.specs.declared.Made.{Made}
@@ -40,7 +40,7 @@ use Rattle.mask_files.specs.declared.Made.the-variants as M
 use Rattle.mask_files.specs.declared.Step.{Step}
 use Rattle.mask_files.specs.declared.Walk.{Walk}
 use Rattle.mask_files.specs.Records.{allNumbers, filedBy}
-use Rattle.mask_files.specs.Walk.{walkAfter, madeOf, stepBy, reachOf, stepOf}
+use Rattle.mask_files.specs.Walk.{walkAfter, madeOf, stepBy, reachOf, walkStep}
 use Rattle.mask_files.proofs.Passing.{filedFrom, Passed, passing, last-takes-none, frame-takes, last-turn, one-turn}
 
 -- ---- where the field that is reached stands
@@ -73,20 +73,20 @@ module _ (sample : ℕ) (f : Frame) (depth : Float) (logs scratch : List Float) 
       → x ≡ pick (allNumbers f depth logs)
       (pick (leb (at + recordSize (length logs)) (length out)) (W.Upto (at + recordSize (length logs)), scratchOf f depth logs scratch, splice out at (recordOf sample (entriesOf f depth logs))) (W.Refused Room, scratch, out))
       (W.Refused Attenuation, scratch, out)
-      → x ≡ writtenOf sample f depth logs scratch out at
-  unfolding writtenOf allNumbers
+      → x ≡ recordWritten sample f depth logs scratch out at
+  unfolding recordWritten allNumbers
   written-is x e =
       took _ _ _ _ (eq-eqb _ _ (bins .places))
       (took _ _ _ _ (bins .lawful) (skipped _ _ _ _ (le-ltb _ _ (bins .some)) (skipped _ _ _ _ (le-ltb _ _ (bins .few)) e)))
 
   pub recorded : allNumbers f depth logs ≡ true → at + recordSize (length logs) ≤ length out
-      → (W.Upto (at + recordSize (length logs)), scratchOf f depth logs scratch, splice out at (recordOf sample (entriesOf f depth logs))) ≡ writtenOf sample f depth logs scratch out at
+      → (W.Upto (at + recordSize (length logs)), scratchOf f depth logs scratch, splice out at (recordOf sample (entriesOf f depth logs))) ≡ recordWritten sample f depth logs scratch out at
   recorded a h = written-is _ (took _ _ _ _ a (took _ _ _ _ (le-leb _ _ h) refl))
 
-  pub unplaced : allNumbers f depth logs ≡ true → leb (at + recordSize (length logs)) (length out) ≡ false → (W.Refused Room, scratch, out) ≡ writtenOf sample f depth logs scratch out at
+  pub unplaced : allNumbers f depth logs ≡ true → leb (at + recordSize (length logs)) (length out) ≡ false → (W.Refused Room, scratch, out) ≡ recordWritten sample f depth logs scratch out at
   unplaced a h = written-is _ (took _ _ _ _ a (skipped _ _ _ _ h refl))
 
-  pub no-number : allNumbers f depth logs ≡ false → (W.Refused Attenuation, scratch, out) ≡ writtenOf sample f depth logs scratch out at
+  pub no-number : allNumbers f depth logs ≡ false → (W.Refused Attenuation, scratch, out) ≡ recordWritten sample f depth logs scratch out at
   no-number a = written-is _ (skipped _ _ _ _ a refl)
 
 -- ---- a walk in a script
@@ -210,7 +210,7 @@ module _ (depth : Float) (logs : List Float) (script : List ℕ) (top : length s
 
   module _ (scratch : List Float) (bins : Bins logs scratch) (out : List ℕ) (at : ℕ) where
     frame-tells : (n : ℕ) (v : Values) → r .turn .line ≡ L.Frame n v
-        → Tells depth logs script walk next out (writtenOf (v .sample) (r .turn .run .frame) depth logs scratch out at .2) at (madeOf n (writtenOf (v .sample) (r .turn .run .frame) depth logs scratch out at .0))
+        → Tells depth logs script walk next out (recordWritten (v .sample) (r .turn .run .frame) depth logs scratch out at .2) at (madeOf n (recordWritten (v .sample) (r .turn .run .frame) depth logs scratch out at .0))
     frame-tells n v e =
         let f = r .turn .run .frame in
         let b = recordOf (v .sample) (entriesOf f depth logs) in
@@ -266,9 +266,9 @@ module _ (depth : Float) (logs : List Float) (script : List ℕ) (top : length s
     line-tells (L.Bad n k) e = (refl, last-tells (L.Bad n k) e refl)
     line-tells (L.End n) e = (refl, last-tells (L.End n) e refl)
 
-    pub step-tells : Tells depth logs script walk (stepOf walk script depth logs scratch out at .0 .walk) out (stepOf walk script depth logs scratch out at .2) at (stepOf walk script depth logs scratch out at .0 .made)
-    unfolding stepOf r next
+    pub step-tells : Tells depth logs script walk (walkStep walk script depth logs scratch out at .0 .walk) out (walkStep walk script depth logs scratch out at .2) at (walkStep walk script depth logs scratch out at .0 .made)
+    unfolding walkStep r next
     step-tells = line-tells (r .turn .line) refl
 
-    pub told : (s : Step) (x : List Float) (y : List ℕ) → (s, x, y) ≡ stepOf walk script depth logs scratch out at → Tells depth logs script walk (s .walk) out y at (s .made)
+    pub told : (s : Step) (x : List Float) (y : List ℕ) → (s, x, y) ≡ walkStep walk script depth logs scratch out at → Tells depth logs script walk (s .walk) out y at (s .made)
     told s x y e = subst (λ (z : Step × List Float × List ℕ). Tells depth logs script walk (z .0 .walk) out (z .2) at (z .0 .made)) (sym e) step-tells

@@ -1,4 +1,4 @@
--- The ways through `next_record`: what it answers is `stepOf`.
+-- The ways through `next_record`: what it answers is `walkStep`.
 use Prim.Native.Nat.{ℕ, _+_, _-_, _≤_}
 use mathlib.Core.Path.{_≡_, refl, sym, ap, _∙_}
 use mathlib.Core.Bool.{true}
@@ -14,11 +14,11 @@ use Rattle.listing.specs.declared.lines.Line.the-variants as L
 use Rattle.listing.specs.declared.turns.Reached.{Reached}
 use Rattle.listing.specs.Reaching.{isFrameless}
 use Rattle.mask_records.specs.declared.Written.{Written}
-use Rattle.mask_records.specs.Written.{writtenOf}
+use Rattle.mask_records.specs.Written.{recordWritten}
 use Rattle.mask_files.specs.declared.Made.{Made}
 use Rattle.mask_files.specs.declared.Made.the-variants as M
 use Rattle.mask_files.specs.declared.Walk.{Walk}
-use Rattle.mask_files.specs.Walk.{walkAfter, steppedOf, madeOf, writtenBy, stepBy, reachOf, stepOf}
+use Rattle.mask_files.specs.Walk.{walkAfter, walkStepped, madeOf, writtenBy, stepBy, reachOf, walkStep}
 
 -- behind the script's end nothing is left of it
 pub past : (s : List ℕ) (at : ℕ) → length s ≤ at → drop (length s) s ≡ drop at s
@@ -28,27 +28,27 @@ past s at h =
     drop-length s ∙ sym (drop-nil k) ∙ ap (drop k) (sym (drop-length s)) ∙ drop-drop k (length s) s ∙ ap (λ (n : ℕ). drop n s) e
 
 module _ (walk : Walk) (script : List ℕ) (depth : Float) (logs scratch : List Float) (out : List ℕ) (at : ℕ) (r : Reached) (eq : r ≡ reachOf walk script) where
-  by-line : (l : Line) → r .turn .line ≡ l → stepBy (walkAfter walk r) (r .turn .run .frame) l depth logs scratch out at ≡ stepOf walk script depth logs scratch out at
-  unfolding stepOf
+  by-line : (l : Line) → r .turn .line ≡ l → stepBy (walkAfter walk r) (r .turn .run .frame) l depth logs scratch out at ≡ walkStep walk script depth logs scratch out at
+  unfolding walkStep
   by-line l e =
       ap (λ (x : Line). stepBy (walkAfter walk r) (r .turn .run .frame) x depth logs scratch out at) (sym e)
       ∙ ap (λ (x : Reached). stepBy (walkAfter walk x) (x .turn .run .frame) (x .turn .line) depth logs scratch out at) eq
 
   module _ (next : Walk) (is : next ≡ walkAfter walk r) where
-    pub frame-step : (n : ℕ) (v : Values) (w : Written) (x : List Float) (y : List ℕ) (made : Made) → r .turn .line ≡ L.Frame n v → (w, x, y) ≡ writtenOf (v .sample) (r .turn .run .frame) depth logs scratch out at → made ≡ madeOf n w
-        → (steppedOf next made, x, y) ≡ stepOf walk script depth logs scratch out at
+    pub frame-step : (n : ℕ) (v : Values) (w : Written) (x : List Float) (y : List ℕ) (made : Made) → r .turn .line ≡ L.Frame n v → (w, x, y) ≡ recordWritten (v .sample) (r .turn .run .frame) depth logs scratch out at → made ≡ madeOf n w
+        → (walkStepped next made, x, y) ≡ walkStep walk script depth logs scratch out at
     frame-step n v w x y made e f m =
-        ap (λ (k : Made). (steppedOf next k, x, y)) m
-        ∙ ap (λ (k : Walk). (steppedOf k (madeOf n w), x, y)) is
+        ap (λ (k : Made). (walkStepped next k, x, y)) m
+        ∙ ap (λ (k : Walk). (walkStepped k (madeOf n w), x, y)) is
         ∙ ap (writtenBy (walkAfter walk r) n) f
         ∙ by-line (L.Frame n v) e
 
-    last-by : (l : Line) → isFrameless l ≡ true → (steppedOf (walkAfter walk r) (M.Last l), scratch, out) ≡ stepBy (walkAfter walk r) (r .turn .run .frame) l depth logs scratch out at
+    last-by : (l : Line) → isFrameless l ≡ true → (walkStepped (walkAfter walk r) (M.Last l), scratch, out) ≡ stepBy (walkAfter walk r) (r .turn .run .frame) l depth logs scratch out at
     last-by L.Nothing h = refl
     last-by (L.Frame n v) h = absurd (no h)
     last-by (L.Refused n k) h = refl
     last-by (L.Bad n k) h = refl
     last-by (L.End n) h = refl
 
-    pub last-step : (l : Line) → r .turn .line ≡ l → isFrameless l ≡ true → (steppedOf next (M.Last l), scratch, out) ≡ stepOf walk script depth logs scratch out at
-    last-step l e h = ap (λ (k : Walk). (steppedOf k (M.Last l), scratch, out)) is ∙ last-by l h ∙ by-line l e
+    pub last-step : (l : Line) → r .turn .line ≡ l → isFrameless l ≡ true → (walkStepped next (M.Last l), scratch, out) ≡ walkStep walk script depth logs scratch out at
+    last-step l e h = ap (λ (k : Walk). (walkStepped k (M.Last l), scratch, out)) is ∙ last-by l h ∙ by-line l e

@@ -49,15 +49,15 @@ rateBy (S.Bad r) = standard
 rateBy S.End = standard
 
 -- the rate that the script's first field gives. A script whose first field gives no lawful rate goes bad there and has no frame: which rate its bins go by is then of no consequence.
-unfoldable pub rateOf : List ℕ → Float
-rateOf script = rateBy (readOf script true)
+unfoldable pub scriptRate : List ℕ → Float
+scriptRate script = rateBy (readOf script true)
 
 abbrev pub binsOf : ℕ → ℕ
 binsOf size = size / 2 + 1
 
 -- the logarithms of the bins, as the mask call has them
 unfoldable pub logsFor : List ℕ → ℕ → List Float
-logsFor script size = logsOf (div32 (rateOf script) (asFloat size)) (binsOf size)
+logsFor script size = logsOf (div32 (scriptRate script) (asFloat size)) (binsOf size)
 
 -- the records of the script's accepted frames, in order
 abbrev pub recordsOf : List ℕ → ℕ → Float → List Record

@@ -14,7 +14,7 @@ use Rattle.listing.specs.declared.turns.Until.the-variants as U
 use Rattle.listing.specs.Reaching.{reachedOf}
 use Rattle.mask_records.specs.declared.Written.{Written}
 use Rattle.mask_records.specs.declared.Written.the-variants as W
-use Rattle.mask_records.specs.Written.{writtenOf}
+use Rattle.mask_records.specs.Written.{recordWritten}
 use Rattle.mask_files.specs.declared.Made.{Made}
 use Rattle.mask_files.specs.declared.Made.the-variants as M
 use Rattle.mask_files.specs.declared.Measured.{Measured}
@@ -22,15 +22,15 @@ use Rattle.mask_files.specs.declared.Step.{Step}
 use Rattle.mask_files.specs.declared.Walk.{Walk}
 
 -- before the first field
-unfoldable pub startOf : Walk
-startOf = record { run = fresh; n = 1; at = 0 }
+unfoldable pub walkStart : Walk
+walkStart = record { run = fresh; n = 1; at = 0 }
 
 -- behind the field that was reached. Its number counts on as a word of 64 bits; its place is in the script, or where it was if that lies behind the script.
 abbrev pub walkAfter : Walk → Reached → Walk
 walkAfter walk r = record { run = r .turn .run; n = grown (r .n); at = walk .at + r .at + r .turn .taken }
 
-abbrev pub steppedOf : Walk → Made → Step
-steppedOf walk made = record { walk = walk; made = made }
+abbrev pub walkStepped : Walk → Made → Step
+walkStepped walk made = record { walk = walk; made = made }
 
 -- a record's refusal is told with the number of the frame's field
 abbrev pub madeOf : ℕ → Written → Made
@@ -39,22 +39,22 @@ madeOf n (W.Refused r) = M.Refused n r
 
 -- the step, and then scratch and out afterwards
 abbrev pub writtenBy : Walk → ℕ → Written × List Float × List ℕ → Step × List Float × List ℕ
-writtenBy walk n w = (steppedOf walk (madeOf n (w .0)), w .1, w .2)
+writtenBy walk n w = (walkStepped walk (madeOf n (w .0)), w .1, w .2)
 
 -- by the line of the field that was reached: an accepted frame's, or the script's last
 abbrev pub stepBy : Walk → Frame → Line → Float → List Float → List Float → List ℕ → ℕ → Step × List Float × List ℕ
-stepBy walk f (L.Frame n v) depth logs scratch out at = writtenBy walk n (writtenOf (v .sample) f depth logs scratch out at)
-stepBy walk f L.Nothing depth logs scratch out at = (steppedOf walk (M.Last L.Nothing), scratch, out)
-stepBy walk f (L.Refused n r) depth logs scratch out at = (steppedOf walk (M.Last (L.Refused n r)), scratch, out)
-stepBy walk f (L.Bad n r) depth logs scratch out at = (steppedOf walk (M.Last (L.Bad n r)), scratch, out)
-stepBy walk f (L.End n) depth logs scratch out at = (steppedOf walk (M.Last (L.End n)), scratch, out)
+stepBy walk f (L.Frame n v) depth logs scratch out at = writtenBy walk n (recordWritten (v .sample) f depth logs scratch out at)
+stepBy walk f L.Nothing depth logs scratch out at = (walkStepped walk (M.Last L.Nothing), scratch, out)
+stepBy walk f (L.Refused n r) depth logs scratch out at = (walkStepped walk (M.Last (L.Refused n r)), scratch, out)
+stepBy walk f (L.Bad n r) depth logs scratch out at = (walkStepped walk (M.Last (L.Bad n r)), scratch, out)
+stepBy walk f (L.End n) depth logs scratch out at = (walkStepped walk (M.Last (L.End n)), scratch, out)
 
 abbrev pub reachOf : Walk → List ℕ → Reached
 reachOf walk script = reachedOf U.Frame (walk .run) (walk .n) (drop (walk .at) script)
 
 -- behind the script's end nothing is left of it
-unfoldable pub stepOf : Walk → List ℕ → Float → List Float → List Float → List ℕ → ℕ → Step × List Float × List ℕ
-stepOf walk script depth logs scratch out at =
+unfoldable pub walkStep : Walk → List ℕ → Float → List Float → List Float → List ℕ → ℕ → Step × List Float × List ℕ
+walkStep walk script depth logs scratch out at =
     let r = reachOf walk script in
     stepBy (walkAfter walk r) (r .turn .run .frame) (r .turn .line) depth logs scratch out at
 

@@ -2,7 +2,7 @@
 ghost use mathlib.Core.Path.{_≡_};
 ghost use Prim.Native.Nat.{_+_, _≤_, _<_, _^_};
 ghost use lib.ListN.{length, drop};
-ghost use Rattle.mask_files.specs.Walk.{startOf, walkAfter, madeOf, stepOf};
+ghost use Rattle.mask_files.specs.Walk.{walkStart, walkAfter, madeOf, walkStep};
 use crate::Made;
 use crate::Step;
 use crate::Walk;
@@ -12,7 +12,7 @@ use mask_records::Written;
 
 // The walk before a script's first field.
 pub fn start() -> Walk
-    ensures { λ r. ⌜ r ≡ startOf ⌝ }
+    ensures { λ r. ⌜ r ≡ walkStart ⌝ }
 {
     let run = script_steps::fresh();
     Walk { run, n: 1, at: 0 }
@@ -60,7 +60,7 @@ pub fn next_record(
     out: &mut [u8],
     at: usize,
 ) -> Step
-    ensures { λ r. ⌜ (r, now (scratch .exit), now (out .exit)) ≡ stepOf walk (now (script .entry)) «depth_db» (now (logs .entry)) (now (scratch .entry)) (now (out .entry)) at ⌝ }
+    ensures { λ r. ⌜ (r, now (scratch .exit), now (out .exit)) ≡ walkStep walk (now (script .entry)) «depth_db» (now (logs .entry)) (now (scratch .entry)) (now (out .entry)) at ⌝ }
 {
     let from = inside(walk.at, script);
     let run = walk.run;

@@ -1,7 +1,7 @@
 // The bins of a script's masks: their logarithms go by the rate that its first field gives.
 ghost use mathlib.Core.Path.{_≡_};
 ghost use Rattle.mask_gains.specs.Bins.{binTableOf};
-ghost use Rattle.mask_files.specs.Masks.{rateIn, rateOf};
+ghost use Rattle.mask_files.specs.Masks.{rateIn, scriptRate};
 use refusals::Answer;
 use script::Field;
 use script::Read;
@@ -34,7 +34,7 @@ fn rate_in(field: Field) -> f32
 
 // Without a lawful rate a script has no frame, and any will do.
 fn rate(script: &[u8]) -> f32
-    ensures { λ r. ⌜ r ≡ rateOf (now (script .entry)) ⌝ }
+    ensures { λ r. ⌜ r ≡ scriptRate (now (script .entry)) ⌝ }
 {
     let read = script::read_field(script, true);
     match read {
@@ -46,7 +46,7 @@ fn rate(script: &[u8]) -> f32
 
 // The bins' logarithms, as a walk over the script takes them: one more place than half the size.
 pub fn prepare(script: &[u8], fft_size: usize, logs: &mut [f32]) -> Answer
-    ensures { λ r. ⌜ (r, now (logs .exit)) ≡ binTableOf (rateOf (now (script .entry))) «fft_size» (now (logs .entry)) ⌝ }
+    ensures { λ r. ⌜ (r, now (logs .exit)) ≡ binTableOf (scriptRate (now (script .entry))) «fft_size» (now (logs .entry)) ⌝ }
 {
     mask_gains::bin_table(rate(script), fft_size, logs)
 }

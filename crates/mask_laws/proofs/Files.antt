@@ -10,13 +10,13 @@ use Rattle.sequences.specs.Pick.{picked, took}
 use Rattle.mask_records.specs.declared.Read.the-variants.{End}
 use Rattle.mask_records.specs.Bytes.{recordOf, fileOf}
 use Rattle.mask_records.specs.Placed.{recordSize}
-use Rattle.mask_records.specs.Found.{readOf}
+use Rattle.mask_records.specs.Found.{recordRead}
 use Rattle.mask_records.proofs.Pairs.{record-length}
 use Rattle.mask_laws.specs.Files.{Record, WholeRecord, ReadsAs}
 use Rattle.mask_laws.proofs.ReadBack.{read-back}
 
-no-bytes : (lent : List ℕ) → readOf [] lent ≡ (End, lent)
-unfolding readOf
+no-bytes : (lent : List ℕ) → recordRead [] lent ≡ (End, lent)
+unfolding recordRead
 no-bytes lent = sym (took _ _ _ _ refl refl)
 
 behind-it : (r : Record) (rs : List Record) → drop (recordSize (length (r .1))) (fileOf (r ∷ rs)) ≡ fileOf rs

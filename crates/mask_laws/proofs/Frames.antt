@@ -28,8 +28,8 @@ use Rattle.mask_records.specs.declared.Read.the-variants as R
 use Rattle.mask_records.specs.Bytes.{recordOf}
 use Rattle.mask_records.specs.Entries.{attenuationAt, isNumber, entryFor}
 use Rattle.mask_records.specs.Placed.{recordSize}
-use Rattle.mask_records.specs.Written.{entriesOf, scratchOf, writtenOf}
-use Rattle.mask_records.specs.Found.{readOf}
+use Rattle.mask_records.specs.Written.{entriesOf, scratchOf, recordWritten}
+use Rattle.mask_records.specs.Found.{recordRead}
 use Rattle.mask_records.proofs.Answers.{apart}
 use Rattle.mask_records.proofs.Sought.{among-at}
 use Rattle.mask_records.proofs.Ways.{quiet-entries}
@@ -71,15 +71,15 @@ pub record Accepted (sample : ℕ) (f : Frame) (depth : Float) (logs scratch : L
   pub few : length logs ≤ 8193
   pub room : at + recordSize (length logs) ≤ length out
   pub place : p ≡ at + recordSize (length logs)
-  pub scratch-is : writtenOf sample f depth logs scratch out at .1 ≡ scratchOf f depth logs scratch
-  pub out-is : writtenOf sample f depth logs scratch out at .2 ≡ splice out at (recordOf sample (entriesOf f depth logs))
+  pub scratch-is : recordWritten sample f depth logs scratch out at .1 ≡ scratchOf f depth logs scratch
+  pub out-is : recordWritten sample f depth logs scratch out at .2 ≡ splice out at (recordOf sample (entriesOf f depth logs))
 
 placed-at : (p q : ℕ) → Upto q ≡ Upto p → p ≡ q
 placed-at p q e = cc
 
 module _ (sample : ℕ) (f : Frame) (depth : Float) (logs scratch : List Float) (out : List ℕ) (at p : ℕ) where
-  pub accepted : writtenOf sample f depth logs scratch out at .0 ≡ Upto p → Accepted sample f depth logs scratch out at p
-  unfolding writtenOf
+  pub accepted : recordWritten sample f depth logs scratch out at .0 ≡ Upto p → Accepted sample f depth logs scratch out at p
+  unfolding recordWritten
   accepted e =
       let n = length logs in
       let done : Both = (Upto (at + recordSize n), scratchOf f depth logs scratch, splice out at (recordOf sample (entriesOf f depth logs))) in
@@ -99,7 +99,7 @@ module _ (sample : ℕ) (f : Frame) (depth : Float) (logs scratch : List Float) 
       let a5 = went-left (Placed p) x6 (Refused Attenuation, scratch, out) (all (λ i. isNumber (attenuationAt f depth logs i)) n) (refused-not Attenuation p) e5 in
       let e6 : x6 .0 ≡ Upto p = ap (λ (x : Both). x .0) (sym (a5 .1)) ∙ e5 in
       let a6 = went-left (Placed p) done (Refused Room, scratch, out) (leb (at + recordSize n) (length out)) (refused-not Room p) e6 in
-      let is : writtenOf sample f depth logs scratch out at ≡ done = a1 .1 ∙ a2 .1 ∙ a3 .1 ∙ a4 .1 ∙ a5 .1 ∙ a6 .1 in
+      let is : recordWritten sample f depth logs scratch out at ≡ done = a1 .1 ∙ a2 .1 ∙ a3 .1 ∙ a4 .1 ∙ a5 .1 ∙ a6 .1 in
       record {
         some = ltb-false n 1 (a3 .0);
         few = ltb-false 8193 n (a4 .0);
@@ -110,18 +110,18 @@ module _ (sample : ℕ) (f : Frame) (depth : Float) (logs scratch : List Float) 
       }
 
   -- the bytes from the place on are the record and what stood behind it
-  from-place : Accepted sample f depth logs scratch out at p → drop at (writtenOf sample f depth logs scratch out at .2) ≡ recordOf sample (entriesOf f depth logs) ++ drop (at + length (recordOf sample (entriesOf f depth logs))) out
+  from-place : Accepted sample f depth logs scratch out at p → drop at (recordWritten sample f depth logs scratch out at .2) ≡ recordOf sample (entriesOf f depth logs) ++ drop (at + length (recordOf sample (entriesOf f depth logs))) out
   from-place a =
       let r = recordOf sample (entriesOf f depth logs) in
       ap (drop at) (a .out-is ∙ append-assoc (take at out) r (drop (at + length r) out)) ∙ drop-at (take at out) (r ++ drop (at + length r) out) at (length-take-le at out (omega (arith, a .room)))
 
   -- written and read back: the same sample, count and entries, for every frame; 13 where the lent slice has fewer places
-  pub written-back : writtenOf sample f depth logs scratch out at .0 ≡ Upto p → (lent : List ℕ) → length logs ≤ length lent
-      → readOf (drop at (writtenOf sample f depth logs scratch out at .2)) lent ≡ (R.Found sample (length logs) (recordSize (length logs)), entriesOf f depth logs ++ drop (length logs) lent)
+  pub written-back : recordWritten sample f depth logs scratch out at .0 ≡ Upto p → (lent : List ℕ) → length logs ≤ length lent
+      → recordRead (drop at (recordWritten sample f depth logs scratch out at .2)) lent ≡ (R.Found sample (length logs) (recordSize (length logs)), entriesOf f depth logs ++ drop (length logs) lent)
   written-back e lent l =
       let a = accepted e in
       let es = entriesOf f depth logs in
       let n : length es ≡ length logs = entries-count f depth logs in
-      ap (λ (s : List ℕ). readOf s lent) (from-place a)
+      ap (λ (s : List ℕ). recordRead s lent) (from-place a)
       ∙ read-back sample es (drop (at + length (recordOf sample es)) out) (omega (arith, a .some)) (omega (arith, a .few)) (λ i h. entries-known f depth logs i (omega arith)) lent
       ∙ rw n (sym (picked _ _ _ (le-leb (length logs) (length lent) l)))

@@ -18,7 +18,7 @@ use Rattle.refusals.specs.declared.Refusal.the-variants.{Room}
 use Rattle.mask_records.specs.declared.Read.the-variants.{Found, Refused}
 use Rattle.mask_records.specs.Bytes.{headOf, pairsOf, recordOf}
 use Rattle.mask_records.specs.Placed.{recordSize}
-use Rattle.mask_records.specs.Found.{countIn, entryIn, headed, readOf}
+use Rattle.mask_records.specs.Found.{countIn, entryIn, headed, recordRead}
 use Rattle.mask_records.proofs.Pairs.{pairs-length, pairs-high, pairs-low, head-length, record-parts, record-length}
 
 module _ (sample : ℕ) (es rest : List ℕ) where
@@ -83,8 +83,8 @@ module _ (sample : ℕ) (es rest : List ℕ) where
 
     module _ (known : (i : ℕ) → i < length es → isEntry (getD es i 0) ≡ true) (lent : List ℕ) where
       -- written and read back: the same sample, count and entries; 13 where the lent slice has fewer places
-      pub read-back : readOf s lent ≡ pick (leb (length es) (length lent)) (Found sample (length es) (recordSize (length es)), es ++ drop (length es) lent) (Refused Room, lent)
-      unfolding readOf
+      pub read-back : recordRead s lent ≡ pick (leb (length es) (length lent)) (Found sample (length es) (recordSize (length es)), es ++ drop (length es) lent) (Refused Room, lent)
+      unfolding recordRead
       read-back =
           sym (passed _ _ _ (ne-eqb (length s) 0 (λ z. omega (arith, size))))
           ∙ sym (picked _ _ _ head-back)

@@ -24,7 +24,7 @@ use Rattle.mask_records.specs.declared.Read.{Read}
 use Rattle.mask_records.specs.declared.Read.the-variants.{End, Found, Refused}
 use Rattle.mask_records.specs.Bytes.{headOf, pairsOf, recordOf}
 use Rattle.mask_records.specs.Placed.{recordSize}
-use Rattle.mask_records.specs.Found.{countIn, entryIn, headed, readOf}
+use Rattle.mask_records.specs.Found.{countIn, entryIn, headed, recordRead}
 use Rattle.mask_records.proofs.Pairs.{pairs-length, pairs-high, pairs-low, record-parts}
 
 module _ (s : List ℕ) (bytes : Every Byte s) where
@@ -136,20 +136,20 @@ pub record FoundIn (s lent : List ℕ) (v n k : ℕ) : Type 0 where
   pub sample : v ≡ be64 s 3
   pub count : n ≡ countIn s
   pub taken : k ≡ recordSize (countIn s)
-  pub lent-is : readOf s lent .1 ≡ table (countIn s) (entryIn s) ++ drop (countIn s) lent
+  pub lent-is : recordRead s lent .1 ≡ table (countIn s) (entryIn s) ++ drop (countIn s) lent
 
 same-found : (v n k a b c : ℕ) → Found a b c ≡ Found v n k → (v ≡ a) × (n ≡ b) × (k ≡ c)
 same-found v n k a b c e = (cc, cc, cc)
 
-pub found-in : (s lent : List ℕ) (v n k : ℕ) → readOf s lent .0 ≡ Found v n k → FoundIn s lent v n k
-unfolding readOf is-found
+pub found-in : (s lent : List ℕ) (v n k : ℕ) → recordRead s lent .0 ≡ Found v n k → FoundIn s lent v n k
+unfolding recordRead is-found
 found-in s lent v n k q =
     let c = countIn s in
     let done : Handed = (Found (be64 s 3) c (recordSize c), table c (entryIn s) ++ drop c lent) in
     let x4 : Handed = pick (leb c (length lent)) done (Refused Room, lent) in
     let x3 : Handed = pick (all (λ i. isEntry (entryIn s i)) c) x4 (Refused Record, lent) in
     let x2 : Handed = pick (headed s) x3 (Refused Record, lent) in
-    let e1 : is-found (readOf s lent .0) ≡ true = ap is-found q in
+    let e1 : is-found (recordRead s lent .0) ≡ true = ap is-found q in
     let a1 = went-right IsFound (End, lent) x2 (eqb (length s) 0) no e1 in
     let e2 : is-found (x2 .0) ≡ true = ap (λ (x : Handed). is-found (x .0)) (sym (a1 .1)) ∙ e1 in
     let a2 = went-left IsFound x3 (Refused Record, lent) (headed s) no e2 in
@@ -157,7 +157,7 @@ found-in s lent v n k q =
     let a3 = went-left IsFound x4 (Refused Record, lent) (all (λ i. isEntry (entryIn s i)) c) no e3 in
     let e4 : is-found (x4 .0) ≡ true = ap (λ (x : Handed). is-found (x .0)) (sym (a3 .1)) ∙ e3 in
     let a4 = went-left IsFound done (Refused Room, lent) (leb c (length lent)) no e4 in
-    let is : readOf s lent ≡ done = a1 .1 ∙ a2 .1 ∙ a3 .1 ∙ a4 .1 in
+    let is : recordRead s lent ≡ done = a1 .1 ∙ a2 .1 ∙ a3 .1 ∙ a4 .1 in
     let g = same-found v n k (be64 s 3) c (recordSize c) (ap (λ (x : Handed). x .0) (sym is) ∙ q) in
     record {
       head = a2 .0;
@@ -180,12 +180,12 @@ head-room s e =
     leb→le _ _ (and-r t4 t6 (and-r t3 (t4 && t6) (and-r t1 (t3 && (t4 && t6)) (subst T (sym e) tt))))
 
 -- read, and written entry by entry: the same bytes
-pub written-again : (s : List ℕ) → Every Byte s → (lent : List ℕ) (v n k : ℕ) → readOf s lent .0 ≡ Found v n k → recordOf v (take n (readOf s lent .1)) ≡ take k s
+pub written-again : (s : List ℕ) → Every Byte s → (lent : List ℕ) (v n k : ℕ) → recordRead s lent .0 ≡ Found v n k → recordOf v (take n (recordRead s lent .1)) ≡ take k s
 written-again s b lent v n k q =
     let f = found-in s lent v n k q in
     let c = countIn s in
-    let front : take n (readOf s lent .1) ≡ table c (entryIn s) =
-    ap (λ (m : ℕ). take m (readOf s lent .1)) (f .count) ∙ ap (take c) (f .lent-is) ∙ take-at (table c (entryIn s)) (drop c lent) c (length-table c (entryIn s)) in
+    let front : take n (recordRead s lent .1) ≡ table c (entryIn s) =
+    ap (λ (m : ℕ). take m (recordRead s lent .1)) (f .count) ∙ ap (take c) (f .lent-is) ∙ take-at (table c (entryIn s)) (drop c lent) c (length-table c (entryIn s)) in
     ap (recordOf v) front
     ∙ ap (λ (x : ℕ). recordOf x (table c (entryIn s))) (f .sample)
     ∙ bytes-back s b c (head-room s (f .head)) (f .head) refl

@@ -7,7 +7,7 @@ use lib.ListN.{length, getD, drop}
 use Rattle.mask_records.specs.Decibels.{isEntry}
 use Rattle.mask_records.specs.declared.Read.the-variants.{End, Found}
 use Rattle.mask_records.specs.Placed.{recordSize}
-use Rattle.mask_records.specs.Found.{readOf}
+use Rattle.mask_records.specs.Found.{recordRead}
 
 -- a record's sample and its entries
 abbrev pub Record : Type 0
@@ -19,7 +19,7 @@ WholeRecord r = (1 ≤ length (r .1)) × (length (r .1) ≤ 8193) × ((i : ℕ) 
 
 -- the reader finds these records in the bytes, one after the other, each behind the bytes that the last one took, and then the end: a slice that is lent with places enough gets the entries, and keeps what stands behind them
 abbrev pub ReadsAs : List ℕ → List Record → Type 0
-ReadsAs s [] = (lent : List ℕ) → readOf s lent ≡ (End, lent)
+ReadsAs s [] = (lent : List ℕ) → recordRead s lent ≡ (End, lent)
 ReadsAs s (r ∷ rs) =
     let n = length (r .1) in
-    ((lent : List ℕ) → n ≤ length lent → readOf s lent ≡ (Found (r .0) n (recordSize n), r .1 ++ drop n lent)) × ReadsAs (drop (recordSize n) s) rs
+    ((lent : List ℕ) → n ≤ length lent → recordRead s lent ≡ (Found (r .0) n (recordSize n), r .1 ++ drop n lent)) × ReadsAs (drop (recordSize n) s) rs

@@ -16,7 +16,7 @@ use Rattle.refusals.specs.declared.Refusal.the-variants.{Room, Attenuation}
 use Rattle.mask_records.specs.declared.Written.{Written}
 use Rattle.mask_records.specs.declared.Written.the-variants.{Upto, Refused}
 use Rattle.mask_records.specs.Bytes.{recordOf}
-use Rattle.mask_records.specs.Entries.{attenuationOf, isNumber}
+use Rattle.mask_records.specs.Entries.{entryAttenuation, isNumber}
 use Rattle.mask_records.specs.Placed.{recordSize, placedOf}
 use Rattle.mask_records.specs.Finished.{filledOf, finishedOf}
 
@@ -52,11 +52,11 @@ module _ (r : Written) (u t o : List ℕ) (q : ℕ) (x s x₀ : List Float) wher
       rw (h, g)
 
 module _ (sample : ℕ) (level : Float) (opened scratch : List Float) (out : List ℕ) (at : ℕ) where
-  pub finished-nan : all (λ i. isNumber (attenuationOf level (getD opened i nan))) (length opened) ≡ false → (Refused Attenuation, scratch, out) ≡ finishedOf sample level opened scratch out at
+  pub finished-nan : all (λ i. isNumber (entryAttenuation level (getD opened i nan))) (length opened) ≡ false → (Refused Attenuation, scratch, out) ≡ finishedOf sample level opened scratch out at
   unfolding finishedOf
   finished-nan h = skipped _ _ _ _ h refl
 
-  module _ (es : List ℕ) (r : Written) (u : List ℕ) (h : all (λ i. isNumber (attenuationOf level (getD opened i nan))) (length opened) ≡ true) (f : es ≡ filledOf level opened) (e : (r, u) ≡ placedOf sample es out at) where
+  module _ (es : List ℕ) (r : Written) (u : List ℕ) (h : all (λ i. isNumber (entryAttenuation level (getD opened i nan))) (length opened) ≡ true) (f : es ≡ filledOf level opened) (e : (r, u) ≡ placedOf sample es out at) where
     long : length es ≡ length opened
     unfolding filledOf
     long = ap length f ∙ length-table _ _

@@ -17,7 +17,7 @@ use Rattle.refusals.specs.declared.Refusal.the-variants.{Room, Record}
 use Rattle.mask_records.specs.declared.Read.{Read}
 use Rattle.mask_records.specs.declared.Read.the-variants.{End, Found, Refused}
 use Rattle.mask_records.specs.Placed.{recordSize}
-use Rattle.mask_records.specs.Found.{countIn, entryIn, headed, readOf}
+use Rattle.mask_records.specs.Found.{countIn, entryIn, headed, recordRead}
 
 -- a head has at most 8,193 bins
 pub count-most : (s : List ℕ) → headed s ≡ true → countIn s ≤ 8193
@@ -34,26 +34,26 @@ module _ (s lent : List ℕ) where
   with-count n =
       pick (all (λ i. isEntry (entryIn s i)) n) (pick (leb n (length lent)) (Found (be64 s 3) n (recordSize n), table n (entryIn s) ++ drop n lent) (Refused Room, lent)) (Refused Record, lent)
 
-  pub at-end : length s ≡ 0 → (End, lent) ≡ readOf s lent
-  unfolding readOf
+  pub at-end : length s ≡ 0 → (End, lent) ≡ recordRead s lent
+  unfolding recordRead
   at-end h = took _ _ _ _ (eq-eqb _ _ h) refl
 
-  pub no-head : (length s ≡ 0 → ⊥) → headed s ≡ false → (Refused Record, lent) ≡ readOf s lent
-  unfolding readOf
+  pub no-head : (length s ≡ 0 → ⊥) → headed s ≡ false → (Refused Record, lent) ≡ recordRead s lent
+  unfolding recordRead
   no-head h e = skipped _ _ _ _ (ne-eqb _ _ h) (skipped _ _ _ _ e refl)
 
   module _ (h : length s ≡ 0 → ⊥) (e : headed s ≡ true) (n : ℕ) (c : n ≡ countIn s) where
-    counted : (x : Read × List ℕ) → x ≡ with-count n → x ≡ readOf s lent
-    unfolding readOf
+    counted : (x : Read × List ℕ) → x ≡ with-count n → x ≡ recordRead s lent
+    unfolding recordRead
     counted x p = skipped _ _ _ _ (ne-eqb _ _ h) (took _ _ _ _ e (p ∙ ap with-count c))
 
-    pub unknown-entry : all (λ i. isEntry (entryIn s i)) n ≡ false → (Refused Record, lent) ≡ readOf s lent
+    pub unknown-entry : all (λ i. isEntry (entryIn s i)) n ≡ false → (Refused Record, lent) ≡ recordRead s lent
     unknown-entry a = counted (Refused Record, lent) (skipped _ _ _ _ a refl)
 
-    pub no-places : all (λ i. isEntry (entryIn s i)) n ≡ true → length lent < n → (Refused Room, lent) ≡ readOf s lent
+    pub no-places : all (λ i. isEntry (entryIn s i)) n ≡ true → length lent < n → (Refused Room, lent) ≡ recordRead s lent
     no-places a l = counted (Refused Room, lent) (took _ _ _ _ a (skipped _ _ _ _ (lt-leb _ _ l) refl))
 
-    pub found : all (λ i. isEntry (entryIn s i)) n ≡ true → n ≤ length lent → (v : ℕ) (ys : List ℕ) → v ≡ be64 s 3 → ys ≡ table (length (take n lent)) (entryIn s) → (Found v n (recordSize n), ys ++ drop n lent) ≡ readOf s lent
+    pub found : all (λ i. isEntry (entryIn s i)) n ≡ true → n ≤ length lent → (v : ℕ) (ys : List ℕ) → v ≡ be64 s 3 → ys ≡ table (length (take n lent)) (entryIn s) → (Found v n (recordSize n), ys ++ drop n lent) ≡ recordRead s lent
     found a l v ys p q =
         counted (Found v n (recordSize n), ys ++ drop n lent)
         (took _ _ _ _ a (took _ _ _ _ (le-leb _ _ l) (rw (p, q, length-take-le n lent l))))

@@ -1,4 +1,4 @@
--- The ways through `write_record`: what its two branches answer is `writtenOf`.
+-- The ways through `write_record`: what its two branches answer is `recordWritten`.
 use Prim.Native.Nat.{ℕ, _+_, _≤_, _<_}
 use mathlib.Core.Path.{_≡_, refl, sym, ap, _∙_}
 use mathlib.Core.Bool.{Bool, true, false}
@@ -25,10 +25,10 @@ use Rattle.mask_gains.specs.Gains.{levelOf, quietOf}
 use Rattle.mask_records.specs.declared.Written.{Written}
 use Rattle.mask_records.specs.declared.Written.the-variants.{Upto, Refused}
 use Rattle.mask_records.specs.Bytes.{recordOf}
-use Rattle.mask_records.specs.Entries.{attenuationOf, attenuationAt, isNumber, entryFor}
+use Rattle.mask_records.specs.Entries.{entryAttenuation, attenuationAt, isNumber, entryFor}
 use Rattle.mask_records.specs.Placed.{recordSize, placedOf}
 use Rattle.mask_records.specs.Finished.{filledOf, finishedOf}
-use Rattle.mask_records.specs.Written.{entriesOf, scratchOf, writtenOf}
+use Rattle.mask_records.specs.Written.{entriesOf, scratchOf, recordWritten}
 
 abbrev One : Type 0
 One = Written × List ℕ
@@ -79,13 +79,13 @@ module _ (sample : ℕ) (f : Frame) (depth : Float) (logs scratch : List Float) 
   numbered b n s es = pick b (roomed n s es) (Refused Attenuation, scratch, out)
 
   module _ (m : length scratch ≡ length logs) (w : lawfulLogs logs ≡ true) (lo : 1 ≤ length logs) (hi : length logs ≤ 8193) where
-    within : (x : Both) → x ≡ numbered (all (λ i. isNumber (attenuationAt f depth logs i)) (length logs)) (length logs) (scratchOf f depth logs scratch) (entriesOf f depth logs) → x ≡ writtenOf sample f depth logs scratch out at
-    unfolding writtenOf
+    within : (x : Both) → x ≡ numbered (all (λ i. isNumber (attenuationAt f depth logs i)) (length logs)) (length logs) (scratchOf f depth logs scratch) (entriesOf f depth logs) → x ≡ recordWritten sample f depth logs scratch out at
+    unfolding recordWritten
     within x e = took _ _ _ _ (eq-eqb _ _ m) (took _ _ _ _ w (skipped _ _ _ _ (le-ltb _ _ lo) (skipped _ _ _ _ (le-ltb _ _ hi) e)))
 
     -- ---- nothing to attenuate
     module _ (q : quietOf depth (f .activity) ≡ true) where
-      pub quiet-written : (r : Written) (u : List ℕ) → (r, u) ≡ placedOf sample (table (length logs) (λ i. 32768)) out at → (r, scratch, u) ≡ writtenOf sample f depth logs scratch out at
+      pub quiet-written : (r : Written) (u : List ℕ) → (r, u) ≡ placedOf sample (table (length logs) (λ i. 32768)) out at → (r, scratch, u) ≡ recordWritten sample f depth logs scratch out at
       unfolding placedOf scratchOf beside
       quiet-written r u e =
           within (r, scratch, u)
@@ -107,23 +107,23 @@ module _ (sample : ℕ) (f : Frame) (depth : Float) (logs scratch : List Float) 
       long : length opened ≡ length logs
       long = length-table (length logs) open-at
 
-      loud-at : (i : ℕ) → i < length logs → attenuationOf level (getD opened i nan) ≡ attenuationAt f depth logs i
+      loud-at : (i : ℕ) → i < length logs → entryAttenuation level (getD opened i nan) ≡ attenuationAt f depth logs i
       unfolding attenuationAt
       loud-at i h =
-          ap (attenuationOf level) (table-at (length logs) open-at i nan h) ∙ ap (λ (l : Float). attenuationOf l (open-at i)) v ∙ passed _ _ _ q
+          ap (entryAttenuation level) (table-at (length logs) open-at i nan h) ∙ ap (λ (l : Float). entryAttenuation l (open-at i)) v ∙ passed _ _ _ q
 
       loud-entries : filledOf level opened ≡ entriesOf f depth logs
       unfolding filledOf entriesOf
       loud-entries =
-          ap (λ (n : ℕ). table n (λ i. entryFor (attenuationOf level (getD opened i nan)))) long
-          ∙ table-same (λ i. entryFor (attenuationOf level (getD opened i nan))) (λ i. entryFor (attenuationAt f depth logs i)) (length logs) (λ k l. ap entryFor (loud-at k l))
+          ap (λ (n : ℕ). table n (λ i. entryFor (entryAttenuation level (getD opened i nan)))) long
+          ∙ table-same (λ i. entryFor (entryAttenuation level (getD opened i nan))) (λ i. entryFor (attenuationAt f depth logs i)) (length logs) (λ k l. ap entryFor (loud-at k l))
 
-      loud-numbers : all (λ i. isNumber (attenuationOf level (getD opened i nan))) (length opened) ≡ all (λ i. isNumber (attenuationAt f depth logs i)) (length logs)
+      loud-numbers : all (λ i. isNumber (entryAttenuation level (getD opened i nan))) (length opened) ≡ all (λ i. isNumber (attenuationAt f depth logs i)) (length logs)
       loud-numbers =
-          ap (all (λ i. isNumber (attenuationOf level (getD opened i nan)))) long
-          ∙ all-same (λ i. isNumber (attenuationOf level (getD opened i nan))) (λ i. isNumber (attenuationAt f depth logs i)) (length logs) (λ k l. ap isNumber (loud-at k l))
+          ap (all (λ i. isNumber (entryAttenuation level (getD opened i nan)))) long
+          ∙ all-same (λ i. isNumber (entryAttenuation level (getD opened i nan))) (λ i. isNumber (attenuationAt f depth logs i)) (length logs) (λ k l. ap isNumber (loud-at k l))
 
-      pub loud-written : (x : Both) → x ≡ finishedOf sample level opened scratch out at → x ≡ writtenOf sample f depth logs scratch out at
+      pub loud-written : (x : Both) → x ≡ finishedOf sample level opened scratch out at → x ≡ recordWritten sample f depth logs scratch out at
       unfolding finishedOf scratchOf
       loud-written x e =
           within x

@@ -12,13 +12,13 @@ use Rattle.mask_gains.specs.Opened.{openAt}
 use Rattle.mask_gains.specs.Gains.{levelOf, quietOf}
 
 -- minus what the mask call hands to `db_to_gain`: -(level * (1.0 - openness))
-unfoldable pub attenuationOf : Float → Float → Float
-attenuationOf level o = neg (mul32 level (sub32 one o))
+unfoldable pub entryAttenuation : Float → Float → Float
+entryAttenuation level o = neg (mul32 level (sub32 one o))
 
 -- 0 where 01's rule of depth and activity gives the ones
 unfoldable pub attenuationAt : Frame → Float → List Float → ℕ → Float
 attenuationAt f depth logs bin =
-    pick (quietOf depth (f .activity)) zero32 (attenuationOf (levelOf depth (f .activity)) (openAt (f .windows) logs bin))
+    pick (quietOf depth (f .activity)) zero32 (entryAttenuation (levelOf depth (f .activity)) (openAt (f .windows) logs bin))
 
 -- refusal 18 looks at each bin's
 abbrev pub isNumber : Float → Bool

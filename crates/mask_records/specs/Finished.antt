@@ -12,16 +12,16 @@ use Rattle.refusals.specs.declared.Refusal.the-variants.{Room, Attenuation}
 use Rattle.mask_records.specs.declared.Written.{Written}
 use Rattle.mask_records.specs.declared.Written.the-variants.{Upto, Refused}
 use Rattle.mask_records.specs.Bytes.{recordOf}
-use Rattle.mask_records.specs.Entries.{attenuationOf, isNumber, entryFor}
+use Rattle.mask_records.specs.Entries.{entryAttenuation, isNumber, entryFor}
 use Rattle.mask_records.specs.Placed.{recordSize}
 
 unfoldable pub filledOf : Float → List Float → List ℕ
-filledOf level opened = table (length opened) (λ i. entryFor (attenuationOf level (getD opened i nan)))
+filledOf level opened = table (length opened) (λ i. entryFor (entryAttenuation level (getD opened i nan)))
 
 -- the answer, and then scratch and out afterwards
 unfoldable pub finishedOf : ℕ → Float → List Float → List Float → List ℕ → ℕ → Written × List Float × List ℕ
 finishedOf sample level opened scratch out at =
     let n = length opened in
-    pick (all (λ i. isNumber (attenuationOf level (getD opened i nan))) n)
+    pick (all (λ i. isNumber (entryAttenuation level (getD opened i nan))) n)
     (pick (leb (at + recordSize n) (length out)) (Upto (at + recordSize n), opened, splice out at (recordOf sample (filledOf level opened))) (Refused Room, scratch, out))
     (Refused Attenuation, scratch, out)

@@ -28,8 +28,8 @@ headed s =
     && ((leb 1 n && leb n 8193) && ((eqb (getD s 13 0) 33 && eqb (be16 s 14) (2 * n)) && leb (recordSize n) (length s)))
 
 -- sample, count and how many bytes the record takes; and the lent entries afterwards. No bytes at all is the end.
-unfoldable pub readOf : List ℕ → List ℕ → Read × List ℕ
-readOf s lent =
+unfoldable pub recordRead : List ℕ → List ℕ → Read × List ℕ
+recordRead s lent =
     let n = countIn s in
     pick (eqb (length s) 0) (End, lent)
     (pick (headed s)

@@ -28,8 +28,8 @@ unfoldable pub scratchOf : Frame → Float → List Float → List Float → Lis
 scratchOf f depth logs scratch = pick (quietOf depth (f .activity)) scratch (table (length logs) (openAt (f .windows) logs))
 
 -- the answer, and then scratch and out afterwards
-unfoldable pub writtenOf : ℕ → Frame → Float → List Float → List Float → List ℕ → ℕ → Written × List Float × List ℕ
-writtenOf sample f depth logs scratch out at =
+unfoldable pub recordWritten : ℕ → Frame → Float → List Float → List Float → List ℕ → ℕ → Written × List Float × List ℕ
+recordWritten sample f depth logs scratch out at =
     let n = length logs in
     pick (eqb (length scratch) n)
     (pick (lawfulLogs logs)

@@ -5,11 +5,11 @@ ghost use lib.Ieee.{nan};
 ghost use Rattle.sequences.specs.All.{all};
 ghost use Rattle.sequences.specs.Table.{table};
 ghost use Rattle.mask_records.specs.Decibels.{entries};
-ghost use Rattle.mask_records.specs.Entries.{attenuationOf, isNumber, entryFor};
+ghost use Rattle.mask_records.specs.Entries.{entryAttenuation, isNumber, entryFor};
 use crate::decibels;
 
 pub fn attenuation(level: f32, openness: f32) -> f32
-    ensures { λ r. ⌜ r ≡ attenuationOf level openness ⌝ }
+    ensures { λ r. ⌜ r ≡ entryAttenuation level openness ⌝ }
 {
     -(level * (1.0 - openness))
 }
@@ -22,7 +22,7 @@ fn is_number(a: f32) -> bool
 
 // Refusal 18 hangs on any bin, bin 0 too.
 pub fn all_numbers(level: f32, opened: &[f32]) -> bool
-    ensures { λ r. ⌜ r ≡ all (λ i. isNumber (attenuationOf level (getD (now (opened .entry)) i nan))) (length (now (opened .entry))) ⌝ }
+    ensures { λ r. ⌜ r ≡ all (λ i. isNumber (entryAttenuation level (getD (now (opened .entry)) i nan))) (length (now (opened .entry))) ⌝ }
 {
     let mut ok = true;
     for i in 0..opened.len() {
@@ -42,7 +42,7 @@ fn entry_for(gains: &[u16; 601], attenuation: f32) -> u16
 // The table is lent: it would be built anew at each bin.
 pub fn fill(gains: &[u16; 601], level: f32, opened: &[f32], out: &mut [u16])
     requires { ⌜ (now gains ≡ entries) × (length (now out) ≡ length (now opened)) ⌝ }
-    ensures { λ _. ⌜ now (out .exit) ≡ table (length (now (opened .entry))) (λ i. entryFor (attenuationOf level (getD (now (opened .entry)) i nan))) ⌝ }
+    ensures { λ _. ⌜ now (out .exit) ≡ table (length (now (opened .entry))) (λ i. entryFor (entryAttenuation level (getD (now (opened .entry)) i nan))) ⌝ }
 {
     for i in 0..out.len() {
         out[i] = entry_for(gains, attenuation(level, opened[i]));

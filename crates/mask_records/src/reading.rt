@@ -5,7 +5,7 @@ ghost use lib.ListN.{length};
 ghost use Rattle.sequences.specs.All.{all};
 ghost use Rattle.sequences.specs.Table.{table};
 ghost use Rattle.mask_records.specs.Decibels.{entries, isEntry};
-ghost use Rattle.mask_records.specs.Found.{headed, entryIn, readOf};
+ghost use Rattle.mask_records.specs.Found.{headed, entryIn, recordRead};
 use crate::Read;
 use crate::decibels;
 use crate::search::is_entry;
@@ -52,7 +52,7 @@ fn hand_out(s: &[u8], lent: &mut [u16])
 
 // A refusal leaves the lent entries as they were.
 pub fn read_record(s: &[u8], lent: &mut [u16]) -> Read
-    ensures { λ r. ⌜ (r, now (lent .exit)) ≡ readOf (now (s .entry)) (now (lent .entry)) ⌝ }
+    ensures { λ r. ⌜ (r, now (lent .exit)) ≡ recordRead (now (s .entry)) (now (lent .entry)) ⌝ }
 {
     if s.len() == 0 {
         return Read::End;

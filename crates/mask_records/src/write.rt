@@ -9,7 +9,7 @@ ghost use Rattle.mask_gains.specs.Logs.{lawfulLogs};
 ghost use Rattle.mask_gains.specs.Opened.{openAt};
 ghost use Rattle.mask_records.specs.Placed.{placedOf};
 ghost use Rattle.mask_records.specs.Finished.{finishedOf};
-ghost use Rattle.mask_records.specs.Written.{writtenOf};
+ghost use Rattle.mask_records.specs.Written.{recordWritten};
 use crate::Written;
 use crate::decibels;
 use refusals::Refusal;
@@ -129,7 +129,7 @@ pub fn write_record(
     out: &mut [u8],
     at: usize,
 ) -> Written
-    ensures { λ r. ⌜ (r, now (scratch .exit), now (out .exit)) ≡ writtenOf sample frame «depth_db» (now (logs .entry)) (now (scratch .entry)) (now (out .entry)) at ⌝ }
+    ensures { λ r. ⌜ (r, now (scratch .exit), now (out .exit)) ≡ recordWritten sample frame «depth_db» (now (logs .entry)) (now (scratch .entry)) (now (out .entry)) at ⌝ }
 {
     if scratch.len() != logs.len() {
         return Written::Refused(Refusal::Lengths);

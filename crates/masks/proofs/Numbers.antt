@@ -8,15 +8,15 @@ use lib.ListN.{length, drop, getD}
 use lib.Seq.{drop-cons, drop-length}
 use Rattle.sequences.specs.Pick.{took, skipped}
 use Rattle.masks.specs.declared.Number.the-variants.{Is, Nothing}
-use Rattle.masks.specs.Digits.{heldOf, numberFrom, numberOf}
+use Rattle.masks.specs.Digits.{digitsHeld, numberFrom, digitsNumber}
 
-pub no-digits : (s : List ℕ) → length s ≡ 0 → Nothing ≡ numberOf s
-unfolding numberOf
+pub no-digits : (s : List ℕ) → length s ≡ 0 → Nothing ≡ digitsNumber s
+unfolding digitsNumber
 no-digits s h = took _ _ _ _ (eq-eqb _ _ h) refl
 
 module _ (s : List ℕ) (some : length s ≡ 0 → ⊥) where
-  pub whole : numberFrom 0 s ≡ numberOf s
-  unfolding numberOf
+  pub whole : numberFrom 0 s ≡ digitsNumber s
+  unfolding digitsNumber
   whole = skipped _ _ _ _ (ne-eqb _ _ some) refl
 
 -- what is left from digit i on
@@ -37,8 +37,8 @@ module _ (s : List ℕ) (n i : ℕ) where
     unfolding numberFrom
     above a l = skipped _ _ _ _ (le-ltb _ _ a) (took _ _ _ _ (lt-ltb _ _ l) refl) ∙ next
 
-    pub digit : 48 ≤ getD s i 0 → getD s i 0 ≤ 57 → numberFrom (heldOf (n * 10 + (getD s i 0 - 48))) (drop (i + 1) s) ≡ numberFrom n (drop i s)
+    pub digit : 48 ≤ getD s i 0 → getD s i 0 ≤ 57 → numberFrom (digitsHeld (n * 10 + (getD s i 0 - 48))) (drop (i + 1) s) ≡ numberFrom n (drop i s)
     unfolding numberFrom
     digit a l =
         let one : i + 1 ≡ suc i = omega arith in
-        ap (λ (k : ℕ). numberFrom (heldOf (n * 10 + (getD s i 0 - 48))) (drop k s)) one ∙ skipped _ _ _ _ (le-ltb _ _ a) (skipped _ _ _ _ (le-ltb _ _ l) refl) ∙ next
+        ap (λ (k : ℕ). numberFrom (digitsHeld (n * 10 + (getD s i 0 - 48))) (drop k s)) one ∙ skipped _ _ _ _ (le-ltb _ _ a) (skipped _ _ _ _ (le-ltb _ _ l) refl) ∙ next

@@ -5,7 +5,7 @@
 ghost use mathlib.Core.Path.{_≡_};
 ghost use Prim.Native.Nat.{_≤_};
 ghost use Rattle.floats.specs.Names.{f32, div32, asFloat};
-ghost use Rattle.masks.specs.Digits.{heldOf, numberOf};
+ghost use Rattle.masks.specs.Digits.{digitsHeld, digitsNumber};
 use listing::Line;
 use mask_files::Made;
 use refusals::Refusal;
@@ -18,13 +18,13 @@ enum Number {
 
 // More than a million says as much as a million: the size is then too large, the depth the deepest.
 fn held(n: u64) -> u64
-    ensures { λ r. ⌜ (r ≡ heldOf n) × (r ≤ 1000000) ⌝ }
+    ensures { λ r. ⌜ (r ≡ digitsHeld n) × (r ≤ 1000000) ⌝ }
 {
     if n < 1000000 { n } else { 1000000 }
 }
 
 fn digits(text: &[u8]) -> Number
-    ensures { λ r. ⌜ r ≡ numberOf (now (text .entry)) ⌝ }
+    ensures { λ r. ⌜ r ≡ digitsNumber (now (text .entry)) ⌝ }
 {
     if text.len() == 0 {
         return Number::Nothing;

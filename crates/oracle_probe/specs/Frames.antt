@@ -10,11 +10,11 @@ use Rattle.windows.specs.declared.Window.{Window}
 use Rattle.windows.specs.declared.Frame.{Frame}
 use Rattle.floats.specs.Names.{zero32}
 
-unfoldable pub windowAt : List Float → ℕ → Window
-windowAt flat j = record { «center_log2_hz» = getD flat (3 * j) zero32; «radius_octaves» = getD flat (3 * j + 1) zero32; amplitude = getD flat (3 * j + 2) zero32 }
+unfoldable pub flatWindow : List Float → ℕ → Window
+flatWindow flat j = record { «center_log2_hz» = getD flat (3 * j) zero32; «radius_octaves» = getD flat (3 * j + 1) zero32; amplitude = getD flat (3 * j + 2) zero32 }
 
-unfoldable pub frameOf : List Float → Float → Frame
-frameOf flat activity = record { windows = table 192 (windowAt flat); activity = activity }
+unfoldable pub flatFrame : List Float → Float → Frame
+flatFrame flat activity = record { windows = table 192 (flatWindow flat); activity = activity }
 
 -- of a call that leaves one slice, and of one that leaves two
 abbrev pub numbered : Answer × List Float → ℕ × List Float

@@ -7,7 +7,7 @@ ghost use Rattle.windows.specs.Opening.{taperOf, opennessOf};
 ghost use Rattle.windows.specs.Attenuation.{attenuationOf};
 ghost use Rattle.mask_gains.specs.Bins.{binTableOf};
 ghost use Rattle.mask_gains.specs.Gains.{gainsOf};
-ghost use Rattle.oracle_probe.specs.Frames.{windowAt, frameOf, numbered, numberedBoth};
+ghost use Rattle.oracle_probe.specs.Frames.{flatWindow, flatFrame, numbered, numberedBoth};
 use windows::Frame;
 use windows::Window;
 
@@ -23,7 +23,7 @@ fn float_at(flat: &[f32], i: usize) -> f32
 
 fn window_at(flat: &[f32], j: usize) -> Window
     requires { ⌜ j < 192 ⌝ }
-    ensures { λ r. ⌜ r ≡ windowAt (now (flat .entry)) j ⌝ }
+    ensures { λ r. ⌜ r ≡ flatWindow (now (flat .entry)) j ⌝ }
 {
     Window {
         center_log2_hz: float_at(flat, 3 * j),
@@ -33,7 +33,7 @@ fn window_at(flat: &[f32], j: usize) -> Window
 }
 
 pub fn frame_of(flat: &[f32], activity: f32) -> Frame
-    ensures { λ r. ⌜ r ≡ frameOf (now (flat .entry)) activity ⌝ }
+    ensures { λ r. ⌜ r ≡ flatFrame (now (flat .entry)) activity ⌝ }
 {
     let none = windows::empty_window();
     let mut windows = [none; 192];
@@ -70,7 +70,7 @@ pub extern "C" fn rk_probe_attenuation_db(
     frequency_hz: f32,
     depth_db: f32,
 ) -> f32
-    ensures { λ r. ⌜ r ≡ attenuationOf (frameOf (now (flat .entry)) activity) «frequency_hz» «depth_db» ⌝ }
+    ensures { λ r. ⌜ r ≡ attenuationOf (flatFrame (now (flat .entry)) activity) «frequency_hz» «depth_db» ⌝ }
 {
     let frame = frame_of(flat, activity);
     windows::attenuation_db(frame, frequency_hz, depth_db)
@@ -92,7 +92,7 @@ pub extern "C" fn rk_probe_gains(
     scratch: &mut [f32],
     output: &mut [f32],
 ) -> u64
-    ensures { λ r. ⌜ (r, now (scratch .exit), now (output .exit)) ≡ numberedBoth (gainsOf (frameOf (now (flat .entry)) activity) «depth_db» (now (logs .entry)) (now (scratch .entry)) (now (output .entry))) ⌝ }
+    ensures { λ r. ⌜ (r, now (scratch .exit), now (output .exit)) ≡ numberedBoth (gainsOf (flatFrame (now (flat .entry)) activity) «depth_db» (now (logs .entry)) (now (scratch .entry)) (now (output .entry))) ⌝ }
 {
     let frame = frame_of(flat, activity);
     refusals::answer_number(mask_gains::gains(frame, depth_db, logs, scratch, output))

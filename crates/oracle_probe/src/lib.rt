@@ -16,7 +16,7 @@ ghost use Rattle.pitch.specs.Register.{heightOf, registerStrength, probabilityO
 ghost use Rattle.pitch.specs.Cloud.{frequencyOf};
 ghost use Rattle.pitch.specs.Octave.{registerOf};
 ghost use Rattle.pitch.specs.Partials.{partialsOf as partialsBy};
-ghost use Rattle.settings.specs.Mending.{attackOf, releaseMsOf, partialsOf, rolloffOf, rateOf, sizeOf, phaseOf, mendedOf};
+ghost use Rattle.settings.specs.Mending.{attackOf, releaseMsOf, partialsHeld, rolloffOf, rateHeld, sizeHeld, phaseOf, mendedOf};
 ghost use Rattle.settings.specs.Envelope.{contourOf};
 ghost use Rattle.timing.specs.Streams.{preparedStream, alignedOf, referenceOf};
 use settings::Config;
@@ -321,7 +321,7 @@ fn config_of(
 // Mended settings, a field at a time.
 #[no_mangle]
 pub extern "C" fn rk_probe_mended_rate(x: f32) -> f32
-    ensures { λ r. ⌜ r ≡ rateOf x ⌝ }
+    ensures { λ r. ⌜ r ≡ rateHeld x ⌝ }
 {
     let mended = settings::mended(config_of(0, 0, x, 1.0, 0.0, 0, 1, 6.0, 0.0, 70.0));
     mended.rate_hz
@@ -329,7 +329,7 @@ pub extern "C" fn rk_probe_mended_rate(x: f32) -> f32
 
 #[no_mangle]
 pub extern "C" fn rk_probe_mended_size(x: f32) -> f32
-    ensures { λ r. ⌜ r ≡ sizeOf x ⌝ }
+    ensures { λ r. ⌜ r ≡ sizeHeld x ⌝ }
 {
     let mended = settings::mended(config_of(0, 0, 1.0, x, 0.0, 0, 1, 6.0, 0.0, 70.0));
     mended.size_octaves
@@ -369,7 +369,7 @@ pub extern "C" fn rk_probe_mended_release(x: f32) -> f32
 
 #[no_mangle]
 pub extern "C" fn rk_probe_mended_partials(n: u32) -> u64
-    ensures { λ r. ⌜ r ≡ partialsOf n ⌝ }
+    ensures { λ r. ⌜ r ≡ partialsHeld n ⌝ }
 {
     let mended = settings::mended(config_of(0, 0, 1.0, 1.0, 0.0, 0, n, 6.0, 0.0, 70.0));
     mended.partials as u64

@@ -2,9 +2,9 @@
 ghost use mathlib.Core.Path.{_≡_};
 ghost use Rattle.mask_records.specs.Decibels.{entryOf};
 ghost use Rattle.mask_records.specs.Tenths.{tenthsOf};
-ghost use Rattle.mask_records.specs.Written.{writtenOf};
-ghost use Rattle.mask_records.specs.Found.{readOf};
-ghost use Rattle.oracle_probe.specs.Frames.{frameOf};
+ghost use Rattle.mask_records.specs.Written.{recordWritten};
+ghost use Rattle.mask_records.specs.Found.{recordRead};
+ghost use Rattle.oracle_probe.specs.Frames.{flatFrame};
 ghost use Rattle.oracle_probe.specs.Records.{toldPlace, toldRecord, toldNumbers, foundOf};
 use mask_records::Read;
 use mask_records::Written;
@@ -52,7 +52,7 @@ pub extern "C" fn rk_probe_write_record(
     out: &mut [u8],
     at: &mut u64,
 ) -> u64
-    ensures { λ r. ⌜ (r, now (at .exit), now (scratch .exit), now (out .exit)) ≡ toldRecord (now (at .entry)) (writtenOf sample (frameOf (now (flat .entry)) activity) «depth_db» (now (logs .entry)) (now (scratch .entry)) (now (out .entry)) (now (at .entry))) ⌝ }
+    ensures { λ r. ⌜ (r, now (at .exit), now (scratch .exit), now (out .exit)) ≡ toldRecord (now (at .entry)) (recordWritten sample (flatFrame (now (flat .entry)) activity) «depth_db» (now (logs .entry)) (now (scratch .entry)) (now (out .entry)) (now (at .entry))) ⌝ }
 {
     let frame = crate::frames::frame_of(flat, activity);
     let written = mask_records::write_record(
@@ -91,7 +91,7 @@ pub extern "C" fn rk_probe_read_record(
     count: &mut u64,
     taken: &mut u64,
 ) -> u64
-    ensures { λ r. ⌜ (r, now (sample .exit), now (count .exit), now (taken .exit), now (entries .exit)) ≡ foundOf (now (sample .entry)) (now (count .entry)) (now (taken .entry)) (readOf (now (bytes .entry)) (now (entries .entry))) ⌝ }
+    ensures { λ r. ⌜ (r, now (sample .exit), now (count .exit), now (taken .exit), now (entries .exit)) ≡ foundOf (now (sample .entry)) (now (count .entry)) (now (taken .entry)) (recordRead (now (bytes .entry)) (now (entries .entry))) ⌝ }
 {
     let read = mask_records::read_record(bytes, entries);
     told_found(read, sample, count, taken)

@@ -7,13 +7,13 @@ use native.Mathlib.Omega.{arith}
 use lib.ListN.{length}
 use Rattle.text.specs.Put.{Put}
 use Rattle.text.proofs.Laws.{nothing, seq}
-use Rattle.oracle_replay.specs.State.{joined}
+use Rattle.oracle_replay.specs.State.{joinedAll}
 
 -- n pieces in all, i of them written into `out`, up to w
 pub record Pieces (g : ℕ → List ℕ) (n : ℕ) (o₀ : List ℕ) (w₀ : ℕ) (out : List ℕ) (i w : ℕ) : Type 0 where
   pub below : i ≤ n
   pub same : length out ≡ length o₀
-  pub goes : (p : List ℕ) (r : ℕ) → Put out p w r (joined g i (n - i)) → Put o₀ p w₀ r (joined g 0 n)
+  pub goes : (p : List ℕ) (r : ℕ) → Put out p w r (joinedAll g i (n - i)) → Put o₀ p w₀ r (joinedAll g 0 n)
 
 pub none-yet : (g : ℕ → List ℕ) (n : ℕ) (o : List ℕ) (w : ℕ) → Pieces g n o w o 0 w
 none-yet g n o w =
@@ -25,7 +25,7 @@ none-yet g n o w =
 
 module _ {g : ℕ → List ℕ} {n : ℕ} {o₀ : List ℕ} {w₀ : ℕ} {out : List ℕ} {i w : ℕ} (m : Pieces g n o₀ w₀ out i w) where
   pub one-more : {p : List ℕ} {r : ℕ} {x : List ℕ} → i < n → x ≡ g i → Put out p w r x → Pieces g n o₀ w₀ p (i + 1) r
-  unfolding joined
+  unfolding joinedAll
   one-more {p} {r} {x} h e put =
       record {
         below = omega arith;
@@ -35,6 +35,6 @@ module _ {g : ℕ → List ℕ} {n : ℕ} {o₀ : List ℕ} {w₀ : ℕ} {out : 
             m .goes q u (rw f (rw e at (seq put (rw (add-one i) at rest))));
       }
 
-  pub all-there : n ≤ i → Put o₀ out w₀ w (joined g 0 n)
-  unfolding joined
+  pub all-there : n ≤ i → Put o₀ out w₀ w (joinedAll g 0 n)
+  unfolding joinedAll
   all-there h = let z : n - i ≡ 0 = omega arith in m .goes out w (rw z (nothing out w))

@@ -20,7 +20,7 @@ use Rattle.listing.specs.Listed.{roomFor}
 use Rattle.listing.specs.Turns.{turnOf}
 use Rattle.listing.proofs.LineSizes.{line-size}
 use Rattle.listing.proofs.TurnLaws.{turn-taken, turn-three}
-use Rattle.oracle_replay.specs.Late.{afterOf, textLate, printedLate}
+use Rattle.oracle_replay.specs.Late.{runAfter, textLate, printedLate}
 
 module _ (start f : ℕ) (run : Run) (n : ℕ) (s : List ℕ) where
   last : turnOf run n s .taken ≡ 0 → textOf (turnOf run n s .line) ≡ textLate start (suc f) run n s
@@ -28,7 +28,7 @@ module _ (start f : ℕ) (run : Run) (n : ℕ) (s : List ℕ) where
   last h = rw (eq-eqb _ _ h) (sym (append-nil _))
 
   more : (turnOf run n s .taken ≡ 0 → ⊥)
-      → textOf (turnOf run n s .line) ++ textLate start f (afterOf start n (turnOf run n s .run)) (n + 1) (drop (turnOf run n s .taken) s) ≡ textLate start (suc f) run n s
+      → textOf (turnOf run n s .line) ++ textLate start f (runAfter start n (turnOf run n s .run)) (n + 1) (drop (turnOf run n s .taken) s) ≡ textLate start (suc f) run n s
   unfolding textLate
   more h = rw (ne-eqb _ _ h)
 
@@ -45,11 +45,11 @@ module _ (start : ℕ) (script o₀ : List ℕ) (w₀ : ℕ) (whole out p : List
   pub stop : t .taken ≡ 0 → Put o₀ p w₀ r whole
   stop h = g p r (rw fuel (rw (last start (length script + 2 - (n + 1)) run n (drop at script) (rw eq at h)) at (rw eq at put)))
 
-  pub go-on : {next : Run} → (t .taken ≡ 0 → ⊥) → next ≡ afterOf start n (t .run) → Goes start script o₀ w₀ whole p next (n + 1) (at + t .taken) r
+  pub go-on : {next : Run} → (t .taken ≡ 0 → ⊥) → next ≡ runAfter start n (t .run) → Goes start script o₀ w₀ whole p next (n + 1) (at + t .taken) r
   go-on {next} h e q u rest =
       let d = drop at script in
       let k = turnOf run n d .taken in
-      let m = afterOf start n (turnOf run n d .run) in
+      let m = runAfter start n (turnOf run n d .run) in
       let same : next ≡ m = rw eq at e in
       let one : Put p q r u (textLate start (length script + 2 - (n + 1)) m (n + 1) (drop k d)) = rw (drop-drop, ← same) (rw eq at rest) in
       g q u (rw fuel (rw (more start (length script + 2 - (n + 1)) run n d (rw eq at h)) at (seq (rw eq at put) one)))
@@ -64,7 +64,7 @@ from-size start (suc f) run n s =
     (λ y. rw (y, length-append) (omega (arith, line-size (t .line))))
     (λ y.
     rw (y, length-append)
-    (omega (arith, line-size (t .line), turn-taken run n s, turn-three run n s (eqb-false (t .taken) 0 y), length-drop (t .taken) s, from-size start f (afterOf start n (t .run)) (n + 1) (drop (t .taken) s))))
+    (omega (arith, line-size (t .line), turn-taken run n s, turn-three run n s (eqb-false (t .taken) 0 y), length-drop (t .taken) s, from-size start f (runAfter start n (t .run)) (n + 1) (drop (t .taken) s))))
 
 pub size-late : (start : ℕ) (s : List ℕ) → length (printedLate start s) ≤ roomFor (length s)
 unfolding printedLate

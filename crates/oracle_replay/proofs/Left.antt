@@ -16,10 +16,10 @@ use Rattle.script_steps.specs.Steps.{fresh}
 use Rattle.listing.specs.declared.turns.Turn.{Turn}
 use Rattle.listing.specs.Turns.{turnOf}
 use Rattle.listing.proofs.TurnLaws.{turn-taken, turn-three}
-use Rattle.oracle_replay.specs.Late.{afterOf}
+use Rattle.oracle_replay.specs.Late.{runAfter}
 use Rattle.oracle_replay.proofs.Whole.{state-length}
 use Rattle.entry.proofs.FrameBytes.{frame-length}
-use Rattle.oracle_replay.specs.Replay.{answerOf, leftBy, leftFrom, leftOf, handedCount, handedIn}
+use Rattle.oracle_replay.specs.Replay.{answerByte, leftBy, leftFrom, leftOf, handedCount, handedIn}
 
 -- what one field leaves
 field-length : (run : Run) (answer : ℕ) → length (joined (leftBy run answer)) ≡ 16493
@@ -32,7 +32,7 @@ module _ (start f : ℕ) (run : Run) (n : ℕ) (s : List ℕ) where
   none-left h = rw (eq-eqb _ _ h)
 
   one-more : (turnOf run n s .taken ≡ 0 → ⊥)
-      → joined (leftBy (afterOf start n (turnOf run n s .run)) (answerOf run n s)) ++ leftFrom start f (afterOf start n (turnOf run n s .run)) (n + 1) (drop (turnOf run n s .taken) s) ≡ leftFrom start (suc f) run n s
+      → joined (leftBy (runAfter start n (turnOf run n s .run)) (answerByte run n s)) ++ leftFrom start f (runAfter start n (turnOf run n s .run)) (n + 1) (drop (turnOf run n s .taken) s) ≡ leftFrom start (suc f) run n s
   unfolding leftFrom
   one-more h = rw (ne-eqb _ _ h)
 
@@ -49,14 +49,14 @@ module _ (start : ℕ) (script o₀ : List ℕ) (w₀ : ℕ) (whole out : List �
   pub stop : t .taken ≡ 0 → Put o₀ out w₀ w whole
   stop h = g out w (rw (fuel, none-left start (length script + 2 - (n + 1)) run n (drop at script) (rw eq at h)) (nothing out w))
 
-  pub go-on : {p : List ℕ} {r a : ℕ} {next : Run} → (t .taken ≡ 0 → ⊥) → next ≡ afterOf start n (t .run) → a ≡ answerOf run n (drop at script) → Put out p w r (joined (leftBy next a)) → Goes start script o₀ w₀ whole p next (n + 1) (at + t .taken) r
+  pub go-on : {p : List ℕ} {r a : ℕ} {next : Run} → (t .taken ≡ 0 → ⊥) → next ≡ runAfter start n (t .run) → a ≡ answerByte run n (drop at script) → Put out p w r (joined (leftBy next a)) → Goes start script o₀ w₀ whole p next (n + 1) (at + t .taken) r
   go-on {p} {r} {a} {next} h e told put q u rest =
       let d = drop at script in
       let k = turnOf run n d .taken in
-      let m = afterOf start n (turnOf run n d .run) in
+      let m = runAfter start n (turnOf run n d .run) in
       let same : next ≡ m = rw eq at e in
       let one : Put p q r u (leftFrom start (length script + 2 - (n + 1)) m (n + 1) (drop k d)) = rw (drop-drop, ← same) (rw eq at rest) in
-      let first : Put out p w r (joined (leftBy m (answerOf run n d))) = rw (← same, ← told) put in
+      let first : Put out p w r (joined (leftBy m (answerByte run n d))) = rw (← same, ← told) put in
       g q u (rw fuel (rw (one-more start (length script + 2 - (n + 1)) run n d (rw eq at h)) at (seq first one)))
 
 -- a field takes three bytes or more
@@ -65,11 +65,11 @@ unfolding leftFrom
 from-size start zero run n s = omega arith
 from-size start (suc f) run n s =
     let t = turnOf run n s in
-    let next = afterOf start n (t .run) in
+    let next = runAfter start n (t .run) in
     by-case (eqb (t .taken) 0) (λ y. rw y (omega arith))
     (λ y.
     rw (y, length-append)
-    (omega (arith, field-length next (answerOf run n s), turn-taken run n s, turn-three run n s (eqb-false (t .taken) 0 y), length-drop (t .taken) s, from-size start f next (n + 1) (drop (t .taken) s))))
+    (omega (arith, field-length next (answerByte run n s), turn-taken run n s, turn-three run n s (eqb-false (t .taken) 0 y), length-drop (t .taken) s, from-size start f next (n + 1) (drop (t .taken) s))))
 
 size : (start : ℕ) (s : List ℕ) → length (leftOf start s) ≤ 5498 * length s
 unfolding leftOf

@@ -8,13 +8,13 @@ use lib.Ieee.{Float}
 use borrow.Author.Tests.{le-leb}
 use Rattle.text.specs.Put.{Put, placeOf, bufferOf}
 use Rattle.state.specs.declared.Engine.{Engine}
-use Rattle.oracle_replay.specs.State.{joined, wordBytes, wordsBytes, harmonicsBytes, streamsBytes, sourcesBytes, particlesBytes, stateBytes}
+use Rattle.oracle_replay.specs.State.{joinedAll, wordBytes, wordsBytes, harmonicsBytes, streamsBytes, sourcesBytes, particlesBytes, stateBytes}
 
 -- pieces of one length
-joined-length : (g : ℕ → List ℕ) (k : ℕ) → ((i : ℕ) → length (g i) ≡ k) → (i n : ℕ) → length (joined g i n) ≡ n * k
-unfolding joined
+joined-length : (g : ℕ → List ℕ) (k : ℕ) → ((i : ℕ) → length (g i) ≡ k) → (i n : ℕ) → length (joinedAll g i n) ≡ n * k
+unfolding joinedAll
 joined-length g k h i zero = sym (zero-mul k)
-joined-length g k h i (suc n) = length-append (g i) (joined g (suc i) n) ∙ rw (h i, joined-length g k h (suc i) n) (add-comm k (n * k)) ∙ sym (suc-mul n k)
+joined-length g k h i (suc n) = length-append (g i) (joinedAll g (suc i) n) ∙ rw (h i, joined-length g k h (suc i) n) (add-comm k (n * k)) ∙ sym (suc-mul n k)
 
 word-length : (n : ℕ) → length (wordBytes n) ≡ 8
 unfolding wordBytes

@@ -26,15 +26,15 @@ unfoldable pub countedOf : ℕ → Run → Run
 countedOf start run = pick (eqb start 0) run (withEngine run (withSample (run .engine) start))
 
 -- the first field makes the engine, which has counted so many samples then
-unfoldable pub afterOf : ℕ → ℕ → Run → Run
-afterOf start n run = pick (eqb n 1) (countedOf start run) run
+unfoldable pub runAfter : ℕ → ℕ → Run → Run
+runAfter start n run = pick (eqb n 1) (countedOf start run) run
 
 -- the text of the turns from field n on, at the start of s, at most f of them
 unfoldable pub textLate : ℕ → ℕ → Run → ℕ → List ℕ → List ℕ
 textLate start zero run n s = []
 textLate start (suc f) run n s =
     let t = turnOf run n s in
-    textOf (t .line) ++ cond (eqb (t .taken) 0) [] (textLate start f (afterOf start n (t .run)) (n + 1) (drop (t .taken) s))
+    textOf (t .line) ++ cond (eqb (t .taken) 0) [] (textLate start f (runAfter start n (t .run)) (n + 1) (drop (t .taken) s))
 
 unfoldable pub printedLate : ℕ → List ℕ → List ℕ
 printedLate start s = cond (leb (length s) 60000) (textLate start (length s + 1) fresh 1 s) (textOf (L.Bad 0 Script))

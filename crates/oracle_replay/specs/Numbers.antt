@@ -22,16 +22,16 @@ use Rattle.timing.specs.declared.SprinkleStream.{SprinkleStream}
 abbrev pub noneWord : ℕ
 noneWord = 18446744073709551615
 
-unfoldable pub flagOf : Bool → ℕ
-flagOf b = pick b 1 0
+unfoldable pub flagWord : Bool → ℕ
+flagWord b = pick b 1 0
 
 -- 256 stands for no source
 unfoldable pub slotOf : ℕ → ℕ
 slotOf n = pick (eqb n 256) noneWord n
 
-abbrev pub retiredOf : Retired → ℕ
-retiredOf Not = noneWord
-retiredOf (At sample) = sample
+abbrev pub retiredWord : Retired → ℕ
+retiredWord Not = noneWord
+retiredWord (At sample) = sample
 
 abbrev pub shapeWord : Shape → ℕ
 shapeWord Sprinkle = 0
@@ -56,7 +56,7 @@ countsOf e =
     ∷ e .next .opportunity
     ∷ e .next .«immediate_index»
     ∷ slotOf (e .next .«last_source»)
-    ∷ flagOf (e .next .«note_input_present»)
+    ∷ flagWord (e .next .«note_input_present»)
     ∷ e .tally .attempts
     ∷ single (e .activity)
     ∷ e .tally .births
@@ -67,14 +67,14 @@ countsOf e =
 
 abbrev pub configWords : Config → List ℕ
 configWords c =
-    flagOf (c .enabled)
+    flagWord (c .enabled)
     ∷ shapeWord (c .shape)
     ∷ directionWord (c .direction)
     ∷ single (c .«rate_hz»)
     ∷ single (c .«size_octaves»)
     ∷ single (c .phase)
-    ∷ flagOf (c .scheduled)
-    ∷ flagOf (c .sync)
+    ∷ flagWord (c .scheduled)
+    ∷ flagWord (c .sync)
     ∷ c .«hop_samples»
     ∷ c .partials
     ∷ single (c .«partial_rolloff_db»)
@@ -89,15 +89,15 @@ preparedWords p = double (p .«sample_rate») ∷ double (p .«phase_alpha») �
 abbrev pub harmonicWords : Float → Float → Float → List ℕ
 harmonicWords log first now = single log ∷ single first ∷ single now ∷ []
 
-abbrev pub streamOf : SprinkleStream → List ℕ
-streamOf s = s .index ∷ double (s .next) ∷ flagOf (s .emit) ∷ []
+abbrev pub streamWords : SprinkleStream → List ℕ
+streamWords s = s .index ∷ double (s .next) ∷ flagWord (s .emit) ∷ []
 
 abbrev pub sourceWords : Source → List ℕ
-sourceWords s = single (s .«frequency_hz») ∷ single (s .strength) ∷ flagOf (s .eligible) ∷ []
+sourceWords s = single (s .«frequency_hz») ∷ single (s .strength) ∷ flagWord (s .eligible) ∷ []
 
 abbrev pub particleOf : Particle → List ℕ
 particleOf p =
-    flagOf (p .active)
+    flagWord (p .active)
     ∷ slotOf (p .source)
     ∷ p .birth
     ∷ double (p .lifetime)
@@ -110,5 +110,5 @@ particleOf p =
     ∷ getD (p .partials) 0 0
     ∷ getD (p .partials) 1 0
     ∷ getD (p .partials) 2 0
-    ∷ retiredOf (p .retirement)
+    ∷ retiredWord (p .retirement)
     ∷ []

@@ -19,7 +19,7 @@ use Rattle.script_steps.specs.Steps.{fresh}
 use Rattle.listing.specs.Turns.{turnOf}
 use Rattle.listing.specs.declared.Listed.{Listed}
 use Rattle.listing.specs.declared.Listed.the-variants.{Count, Refused}
-use Rattle.oracle_replay.specs.Late.{afterOf}
+use Rattle.oracle_replay.specs.Late.{runAfter}
 use Rattle.oracle_replay.specs.State.{stateBytes}
 use Rattle.entry.specs.Entry.{frameBytes}
 
@@ -29,11 +29,11 @@ countOf (Count n) = n
 countOf (Refused r) = 0
 
 -- refusals stand in the listing
-abbrev pub outcomeNumber : Outcome → ℕ
-outcomeNumber O.Born = 1
-outcomeNumber O.NotEligible = 2
-outcomeNumber O.Dropped = 3
-outcomeNumber (O.Refused r) = 0
+abbrev pub outcomeByte : Outcome → ℕ
+outcomeByte O.Born = 1
+outcomeByte O.NotEligible = 2
+outcomeByte O.Dropped = 3
+outcomeByte (O.Refused r) = 0
 
 -- what a field's trigger answers, on the run that it meets; 0 where the field is no trigger
 unfoldable pub triggerOf : Run → Field → ℕ
@@ -42,14 +42,14 @@ triggerOf run (F.Configure c) = 0
 triggerOf run (F.Source s f g b) = 0
 triggerOf run (F.Retire s) = 0
 triggerOf run (F.Release s) = 0
-triggerOf run (F.Trigger s) = outcomeNumber (triggeredOf (run .engine) s .outcome)
+triggerOf run (F.Trigger s) = outcomeByte (triggeredOf (run .engine) s .outcome)
 triggerOf run (F.Seek x) = 0
 triggerOf run (F.Advance n) = 0
 triggerOf run (F.Frame b x) = 0
 triggerOf run (F.NoteInput b) = 0
 triggerOf run F.Reset = 0
 triggerOf run F.Reserve = 0
-triggerOf run (F.ReservedTrigger s i) = outcomeNumber (triggeredBy (run .engine) s i .outcome)
+triggerOf run (F.ReservedTrigger s i) = outcomeByte (triggeredBy (run .engine) s i .outcome)
 
 abbrev pub readAnswer : Run → Read → ℕ
 readAnswer run (S.Field f k) = triggerOf run f
@@ -57,8 +57,8 @@ readAnswer run (S.Bad r) = 0
 readAnswer run S.End = 0
 
 -- field n of the script stands at the start of s
-unfoldable pub answerOf : Run → ℕ → List ℕ → ℕ
-answerOf run n s = readAnswer run (readOf s (eqb n 1))
+unfoldable pub answerByte : Run → ℕ → List ℕ → ℕ
+answerByte run n s = readAnswer run (readOf s (eqb n 1))
 
 -- what a field leaves: the state, the last accepted frame, the trigger's answer
 unfoldable pub leftBy : Run → ℕ → List (List ℕ)
@@ -69,8 +69,8 @@ unfoldable pub leftFrom : ℕ → ℕ → Run → ℕ → List ℕ → List ℕ
 leftFrom start zero run n s = []
 leftFrom start (suc f) run n s =
     let t = turnOf run n s in
-    let after = afterOf start n (t .run) in
-    cond (eqb (t .taken) 0) [] (joined (leftBy after (answerOf run n s)) ++ leftFrom start f after (n + 1) (drop (t .taken) s))
+    let after = runAfter start n (t .run) in
+    cond (eqb (t .taken) 0) [] (joined (leftBy after (answerByte run n s)) ++ leftFrom start f after (n + 1) (drop (t .taken) s))
 
 -- each field takes a byte at least, so that these are all
 unfoldable pub leftOf : ℕ → List ℕ → List ℕ

@@ -11,12 +11,12 @@ use Rattle.sources.specs.Sources.{noSource}
 use Rattle.state.specs.declared.Engine.{Engine}
 use Rattle.timing.specs.declared.SprinkleStream.{SprinkleStream}
 use Rattle.timing.specs.Streams.{newOf}
-use Rattle.oracle_replay.specs.Numbers.{countsOf, configWords, preparedWords, harmonicWords, streamOf, sourceWords, particleOf}
+use Rattle.oracle_replay.specs.Numbers.{countsOf, configWords, preparedWords, harmonicWords, streamWords, sourceWords, particleOf}
 
 -- g i, then g (i + 1), .., n of them
-unfoldable pub joined : (ℕ → List ℕ) → ℕ → ℕ → List ℕ
-joined g i zero = []
-joined g i (suc n) = g i ++ joined g (suc i) n
+unfoldable pub joinedAll : (ℕ → List ℕ) → ℕ → ℕ → List ℕ
+joinedAll g i zero = []
+joinedAll g i (suc n) = g i ++ joinedAll g (suc i) n
 
 unfoldable pub wordBytes : ℕ → List ℕ
 wordBytes n =
@@ -31,19 +31,19 @@ wordBytes n =
     ∷ []
 
 unfoldable pub wordsBytes : List ℕ → List ℕ
-wordsBytes ws = joined (λ i. wordBytes (getD ws i 0)) 0 (length ws)
+wordsBytes ws = joinedAll (λ i. wordBytes (getD ws i 0)) 0 (length ws)
 
 unfoldable pub harmonicsBytes : List Float → List Float → List Float → List ℕ
-harmonicsBytes logs defaults weights = joined (λ i. wordsBytes (harmonicWords (getD logs i nan) (getD defaults i nan) (getD weights i nan))) 0 24
+harmonicsBytes logs defaults weights = joinedAll (λ i. wordsBytes (harmonicWords (getD logs i nan) (getD defaults i nan) (getD weights i nan))) 0 24
 
 unfoldable pub streamsBytes : List SprinkleStream → List ℕ
-streamsBytes ss = joined (λ i. wordsBytes (streamOf (getD ss i (newOf 0 false)))) 0 3
+streamsBytes ss = joinedAll (λ i. wordsBytes (streamWords (getD ss i (newOf 0 false)))) 0 3
 
 unfoldable pub sourcesBytes : List Source → List ℕ
-sourcesBytes ss = joined (λ i. wordsBytes (sourceWords (getD ss i noSource))) 0 256
+sourcesBytes ss = joinedAll (λ i. wordsBytes (sourceWords (getD ss i noSource))) 0 256
 
 unfoldable pub particlesBytes : List Particle → List ℕ
-particlesBytes ps = joined (λ i. wordsBytes (particleOf (getD ps i freeParticle))) 0 64
+particlesBytes ps = joinedAll (λ i. wordsBytes (particleOf (getD ps i freeParticle))) 0 64
 
 unfoldable pub stateBytes : Engine → List ℕ
 stateBytes e =

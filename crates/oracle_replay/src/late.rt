@@ -4,7 +4,7 @@ ghost use mathlib.Core.Path.{_≡_};
 ghost use Prim.Native.Nat.{_+_, _-_, _<_, _≤_};
 ghost use lib.ListN.{length, drop};
 ghost use Rattle.text.specs.Put.{Put};
-ghost use Rattle.oracle_replay.specs.Late.{countedOf, afterOf, textLate, printedLate, listedLate, leftLate};
+ghost use Rattle.oracle_replay.specs.Late.{countedOf, runAfter, textLate, printedLate, listedLate, leftLate};
 use listing::Line;
 use listing::Listed;
 use refusals::Refusal;
@@ -31,7 +31,7 @@ fn counted(run: Run, start: u64) -> Run
 
 // The run after field n.
 pub fn after(start: u64, n: u64, run: Run) -> Run
-    ensures { λ r. ⌜ r ≡ afterOf start n run ⌝ }
+    ensures { λ r. ⌜ r ≡ runAfter start n run ⌝ }
 {
     if n == 1 {
         return counted(run, start);

@@ -6,7 +6,7 @@ ghost use lib.ListN.{length, drop};
 ghost use Rattle.text.specs.Put.{Put, placeAfter, bufferAfter};
 ghost use Rattle.listing.specs.Listed.{listedOf, leftIn};
 ghost use Rattle.oracle_replay.specs.Late.{listedLate, leftLate};
-ghost use Rattle.oracle_replay.specs.Replay.{countOf, outcomeNumber, triggerOf, answerOf, leftBy, leftFrom, handedCount, handedIn};
+ghost use Rattle.oracle_replay.specs.Replay.{countOf, outcomeByte, triggerOf, answerByte, leftBy, leftFrom, handedCount, handedIn};
 use engine::Outcome;
 use engine::Triggered;
 use listing::Listed;
@@ -47,7 +47,7 @@ pub extern "C" fn rk_probe_listing_from(start: u64, script: &[u8], out: &mut [u8
 }
 
 fn outcome(triggered: Triggered) -> u8
-    ensures { λ r. ⌜ r ≡ outcomeNumber (triggered .outcome) ⌝ }
+    ensures { λ r. ⌜ r ≡ outcomeByte (triggered .outcome) ⌝ }
 {
     let outcome = triggered.outcome;
     match outcome {
@@ -83,7 +83,7 @@ fn trigger(run: Run, field: Field) -> u8
 
 // The same of field n, which stands at the start of s.
 fn answer(run: Run, n: u64, s: &[u8]) -> u8
-    ensures { λ r. ⌜ r ≡ answerOf run n (now (s .entry)) ⌝ }
+    ensures { λ r. ⌜ r ≡ answerByte run n (now (s .entry)) ⌝ }
 {
     let read = script::read_field(s, n == 1);
     match read {

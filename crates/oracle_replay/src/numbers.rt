@@ -2,7 +2,7 @@
 // all ones.
 ghost use mathlib.Core.Path.{_≡_};
 ghost use lib.Ieee.{binary32, toBits};
-ghost use Rattle.oracle_replay.specs.Numbers.{flagOf, slotOf, retiredOf, shapeWord, directionWord, countsOf, configWords, preparedWords, harmonicWords, streamOf, sourceWords, particleOf};
+ghost use Rattle.oracle_replay.specs.Numbers.{flagWord, slotOf, retiredWord, shapeWord, directionWord, countsOf, configWords, preparedWords, harmonicWords, streamWords, sourceWords, particleOf};
 use pool::Particle;
 use pool::Retired;
 use settings::Config;
@@ -16,7 +16,7 @@ use timing::SprinkleStream;
 const NONE: u64 = 18446744073709551615;
 
 fn flag(b: bool) -> u64
-    ensures { λ r. ⌜ r ≡ flagOf b ⌝ }
+    ensures { λ r. ⌜ r ≡ flagWord b ⌝ }
 {
     if b { 1 } else { 0 }
 }
@@ -31,7 +31,7 @@ fn slot(n: usize) -> u64
 }
 
 fn retired(r: Retired) -> u64
-    ensures { λ t. ⌜ t ≡ retiredOf r ⌝ }
+    ensures { λ t. ⌜ t ≡ retiredWord r ⌝ }
 {
     match r {
         Retired::Not => NONE,
@@ -125,7 +125,7 @@ pub fn harmonic(log: f32, default_weight: f32, weight: f32) -> [u64; 3]
 }
 
 pub fn stream(s: SprinkleStream) -> [u64; 3]
-    ensures { λ r. ⌜ r ≡ streamOf s ⌝ }
+    ensures { λ r. ⌜ r ≡ streamWords s ⌝ }
 {
     [s.index, floats::bits64(s.next), flag(s.emit)]
 }

@@ -11,10 +11,10 @@ use lib.Ieee.{Float, le}
 use Rattle.floats.specs.Names.{mul32, zero32}
 use Rattle.sequences.specs.Pick.{pick, picked, passed, either}
 use Rattle.draws.specs.Draws.{randomOf}
-use Rattle.pitch.specs.Partials.{sumOf, harmonicOf, withoutOf, countOf, drawnFrom}
+use Rattle.pitch.specs.Partials.{sumOf, harmonicOf, withoutOf, partialCount, drawnFrom}
 
-pub count-most : (draw : Float) → countOf draw ≤ 3
-unfolding countOf
+pub count-most : (draw : Float) → partialCount draw ≤ 3
+unfolding partialCount
 count-most draw = either (λ (n : ℕ). n ≤ 3) _ _ _ (omega arith) (either (λ (n : ℕ). n ≤ 3) _ _ _ (omega arith) (omega arith))
 
 pub length-without : (weights : List Float) (harmonic : ℕ) → length (withoutOf weights harmonic) ≡ length weights

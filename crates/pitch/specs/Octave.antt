@@ -27,12 +27,12 @@ unfoldable pub tiltOf : Bool → Float → Float
 tiltOf upward position = cond upward (add32 half position) (sub32 (f32 0x3fc00000) position)
 
 -- count - 1, which wraps in a release build: of no octave at all, 2^32 - 1
-unfoldable pub lastOf : ℕ → ℕ
-lastOf count = (count + 4294967295) % 2 ^ 32
+unfoldable pub lastOctave : ℕ → ℕ
+lastOctave count = (count + 4294967295) % 2 ^ 32
 
 -- (count - 1) as f32
 unfoldable pub spanOf : ℕ → Float
-spanOf count = asFloat (lastOf count)
+spanOf count = asFloat (lastOctave count)
 
 -- register_probability(root_log + first + i as f32) * tilt, with position = i as f32 / span and low = root_log + first
 unfoldable pub weightOf : Float → Float → Bool → ℕ → Float
@@ -48,29 +48,29 @@ chosenFrom weight last zero i target = last
 chosenFrom weight last (suc n) i target = let left = sub32 target (weight i) in pick (lt left zero32) i (chosenFrom weight last n (suc i) left)
 
 -- the walk from the first octave; where none takes the target below 0, the last one
-unfoldable pub chosenOf : Float → Float → Bool → ℕ → Float → ℕ
-chosenOf low span upward count target = chosenFrom (weightOf low span upward) (lastOf count) count 0 target
+unfoldable pub octaveChosen : Float → Float → Bool → ℕ → Float → ℕ
+octaveChosen low span upward count target = chosenFrom (weightOf low span upward) (lastOctave count) count 0 target
 
 -- first = (PARTICLE_MIN_HZ.log2() - root_log).ceil(); last = (upper.log2() - root_log).floor(); count = (last - first + 1.0) as u32
-unfoldable pub firstOf : Float → Float
-firstOf rootLog = ceil binary32 (sub32 (log2Of minHz) rootLog)
+unfoldable pub firstOctave : Float → Float
+firstOctave rootLog = ceil binary32 (sub32 (log2Of minHz) rootLog)
 
 unfoldable pub octavesOf : Float → Float → Float → ℕ
 octavesOf rootLog first upper = toUnsigned 32 (add32 (sub32 (floor binary32 (sub32 (log2Of upper) rootLog)) first) one)
 
 -- the octave chosen, with target = random(index, 2) * total
-unfoldable pub drawnOf : ℕ → Float → Bool → ℕ → ℕ
-drawnOf index low upward count =
+unfoldable pub octaveDrawn : ℕ → Float → Bool → ℕ → ℕ
+octaveDrawn index low upward count =
     let span = spanOf count in
     let target = mul32 (randomOf index 2) (totalOf low span upward count) in
-    chosenOf low span upward count target
+    octaveChosen low span upward count target
 
 -- first + chosen as f32
 unfoldable pub octaveOf : ℕ → Float → Float → Bool → Float
 octaveOf index rootLog upper upward =
-    let first = firstOf rootLog in
+    let first = firstOctave rootLog in
     let count = octavesOf rootLog first upper in
-    add32 first (asFloat (drawnOf index (add32 rootLog first) upward count))
+    add32 first (asFloat (octaveDrawn index (add32 rootLog first) upward count))
 
 -- upper = SPRINKLE_MAX_HZ.min(max_hz)
 unfoldable pub upperOf : Float → Float

@@ -12,8 +12,8 @@ use Rattle.floats.specs.Names.{f32, add32, sub32, mul32, zero32, asFloat, minus
 use Rattle.draws.specs.Draws.{randomOf}
 
 -- if draw < PARTIAL_COUNT_CUMULATIVE[0] { 1 } else if draw < PARTIAL_COUNT_CUMULATIVE[1] { 2 } else { 3 }
-unfoldable pub countOf : Float → ℕ
-countOf draw = pick (lt draw (f32 0x3f4ccccd)) 1 (pick (lt draw (f32 0x3f7851ec)) 2 3)
+unfoldable pub partialCount : Float → ℕ
+partialCount draw = pick (lt draw (f32 0x3f4ccccd)) 1 (pick (lt draw (f32 0x3f7851ec)) 2 3)
 
 -- if i >= limit || (i + 1) as f32 >= max_ratio { *weight = 0.0; }
 unfoldable pub keptOf : ℕ → Float → ℕ → Float → Float
@@ -48,9 +48,9 @@ drawnFrom index (suc n) slot weights selected =
     let harmonic = harmonicOf weights (mul32 (randomOf index (13 + slot)) total) in
     pick (le total zero32) selected (drawnFrom index n (suc slot) (withoutOf weights harmonic) (set selected slot harmonic))
 
-unfoldable pub drawnOf : ℕ → List Float → ℕ → List ℕ
-drawnOf index weights count = drawnFrom index count 0 weights (0 ∷ 0 ∷ 0 ∷ [])
+unfoldable pub partialsDrawn : ℕ → List Float → ℕ → List ℕ
+partialsDrawn index weights count = drawnFrom index count 0 weights (0 ∷ 0 ∷ 0 ∷ [])
 
 -- the whole of `select_partials`
 unfoldable pub partialsOf : ℕ → List Float → ℕ → Float → List ℕ
-partialsOf index weights limit ratio = drawnOf index (allowedOf limit ratio weights) (countOf (randomOf index 12))
+partialsOf index weights limit ratio = partialsDrawn index (allowedOf limit ratio weights) (partialCount (randomOf index 12))

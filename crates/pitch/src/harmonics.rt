@@ -2,14 +2,14 @@
 // weights say how likely a harmonic is, never how loud.
 ghost use mathlib.Core.Path.{_≡_};
 ghost use Prim.Native.Nat.{_≤_};
-ghost use Rattle.pitch.specs.Partials.{countOf, keptOf, allowedOf, sumOf, harmonicOf, withoutOf, drawnOf, partialsOf};
+ghost use Rattle.pitch.specs.Partials.{partialCount, keptOf, allowedOf, sumOf, harmonicOf, withoutOf, partialsDrawn, partialsOf};
 
 // A draw below the first gives one harmonic, below the second two, else three.
 pub const PARTIAL_COUNT_CUMULATIVE: [f32; 2] = [0.80, 0.97];
 
 // How many harmonics are drawn.
 fn count(draw: f32) -> usize
-    ensures { λ r. ⌜ r ≡ countOf draw ⌝ }
+    ensures { λ r. ⌜ r ≡ partialCount draw ⌝ }
 {
     let cumulative = crate::harmonics::PARTIAL_COUNT_CUMULATIVE;
     if draw < cumulative[0] {
@@ -92,7 +92,7 @@ fn without(weights: [f32; 24], harmonic: u8) -> [f32; 24]
 
 fn drawn(index: u64, weights: [f32; 24], count: usize) -> [u8; 3]
     requires { ⌜ count ≤ 3 ⌝ }
-    ensures { λ r. ⌜ r ≡ drawnOf index weights count ⌝ }
+    ensures { λ r. ⌜ r ≡ partialsDrawn index weights count ⌝ }
 {
     let mut left = weights;
     let mut selected = [0u8; 3];

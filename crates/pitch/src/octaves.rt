@@ -2,7 +2,7 @@
 // are rarer, and the direction tilts the choice.
 ghost use mathlib.Core.Path.{_≡_};
 ghost use Rattle.elementary.specs.Log2.{log2Of};
-ghost use Rattle.pitch.specs.Octave.{upwardOf, tiltOf, lastOf, spanOf, weightOf, totalOf, chosenOf, firstOf, drawnOf, octaveOf, registerOf};
+ghost use Rattle.pitch.specs.Octave.{upwardOf, tiltOf, lastOctave, spanOf, weightOf, totalOf, octaveChosen, firstOctave, octaveDrawn, octaveOf, registerOf};
 use crate::registers;
 use settings::Direction;
 
@@ -35,7 +35,7 @@ fn tilt(upward: bool, position: f32) -> f32
 
 // One less, which wraps: 6 or 7 inside the limits, and 2^32 - 1 where there is no octave.
 fn last(count: u32) -> u32
-    ensures { λ r. ⌜ r ≡ lastOf count ⌝ }
+    ensures { λ r. ⌜ r ≡ lastOctave count ⌝ }
 {
     std::num::wrapping_add_u32(count, 4294967295)
 }
@@ -68,7 +68,7 @@ fn total(low: f32, span: f32, upward: bool, count: u32) -> f32
 
 // The octave whose weight takes the target below 0, or the last one.
 fn chosen(low: f32, span: f32, upward: bool, count: u32, target: f32) -> u32
-    ensures { λ r. ⌜ r ≡ chosenOf low span upward count target ⌝ }
+    ensures { λ r. ⌜ r ≡ octaveChosen low span upward count target ⌝ }
 {
     let mut left = target;
     let mut i: u32 = 0;
@@ -96,14 +96,14 @@ fn log_of_upper(hz: f32) -> f32
 
 // The lowest whole octave from the root that is at 20 Hz or above.
 fn first(root_log: f32) -> f32
-    ensures { λ r. ⌜ r ≡ firstOf «root_log» ⌝ }
+    ensures { λ r. ⌜ r ≡ firstOctave «root_log» ⌝ }
 {
     floats::ceil32(registers::LOG_OF_MIN_HZ - root_log)
 }
 
 // Which of the octaves is drawn; `low` is the logarithm of the first one's frequency.
 fn drawn(index: u64, low: f32, upward: bool, count: u32) -> u32
-    ensures { λ r. ⌜ r ≡ drawnOf index low upward count ⌝ }
+    ensures { λ r. ⌜ r ≡ octaveDrawn index low upward count ⌝ }
 {
     let span = span(count);
     let target = draws::random(index, draws::REGISTER) * total(low, span, upward, count);

@@ -21,7 +21,7 @@ use Rattle.floats_laws.proofs.Keys.{key, le-key, lt-key}
 use Rattle.floats_laws.proofs.Rules.{le-right, le-trans}
 use Rattle.draws.specs.Draws.{randomOf}
 use Rattle.floats.specs.Names.{zero32, one, asFloat}
-use Rattle.pitch.specs.Partials.{countOf, keptOf, allowedOf, drawnOf, partialsOf}
+use Rattle.pitch.specs.Partials.{partialCount, keptOf, allowedOf, partialsDrawn, partialsOf}
 use Rattle.pitch_laws.proofs.Picks.{Drawable, Chosen, chosen-drawn, nil-gone}
 use Rattle.pitch.proofs.Turns.{count-most, length-drawn}
 
@@ -73,9 +73,9 @@ at-first ws =
     }
 
 pub picks-lawful : (index : ℕ) (weights : List Float) (limit : ℕ) (ratio : Float) → Picks limit ratio weights (partialsOf index weights limit ratio)
-unfolding partialsOf drawnOf
+unfolding partialsOf partialsDrawn
 picks-lawful index weights limit ratio =
-    let n = countOf (randomOf index 12) in
+    let n = partialCount (randomOf index 12) in
     let ws = allowedOf limit ratio weights in
     let c = chosen-drawn index n 0 ws ws (0 ∷ 0 ∷ 0 ∷ []) (omega (arith, count-most (randomOf index 12))) (at-first ws) in
     record {

@@ -21,13 +21,13 @@ use Rattle.floats_laws.proofs.Mag.{Mag}
 use Rattle.floats_laws.proofs.Rising.{nought}
 use Rattle.floats_laws.proofs.Rules.{le-trans as float-trans}
 use Rattle.elementary.specs.Rung.{rungOf, digitsOf}
-use Rattle.elementary.specs.LogCells.{tops, topOf, slopes, slopeOf, bends, bendOf}
+use Rattle.elementary.specs.LogCells.{logTops, logTop, logSlopes, logSlope, logBends, logBend}
 use Rattle.elementary.specs.Log2.{fallOf, cellOf, fractionOf, joinedOf, logOf, log2Of}
 use Rattle.floats_laws.proofs.Spans.{lt-le}
 use Rattle.elementary_laws.proofs.LogExact.{log2-fits}
 use Rattle.elementary_laws.proofs.LogRises.{least, most, log2-rises, log2-within}
 use Rattle.pitch.specs.Register.{minHz}
-use Rattle.pitch.specs.Octave.{upwardOf, lastOf, chosenFrom, chosenOf, firstOf, octavesOf, drawnOf, octaveOf, upperOf, registerOf}
+use Rattle.pitch.specs.Octave.{upwardOf, lastOctave, chosenFrom, octaveChosen, firstOctave, octavesOf, octaveDrawn, octaveOf, upperOf, registerOf}
 use Rattle.settings.specs.declared.Direction.{Direction}
 use Rattle.pitch_laws.proofs.Harmonics.{one-is}
 use Rattle.pitch.proofs.Logs.{log-of-min, log-of-top}
@@ -41,7 +41,7 @@ unfolding ofBits ofFields odd
 log-of-20 = log-of-min
 
 log-of-4000 : log2Of leastHz ≡ logOf4000
-unfolding log2Of logOf rungOf digitsOf joinedOf fractionOf cellOf fallOf topOf tops slopeOf slopes bendOf bends isNan lt eq sub add neg sum round size span climb units odd trailingZeros leadingZeros ofInt ofBits ofFields mul toBits
+unfolding log2Of logOf rungOf digitsOf joinedOf fractionOf cellOf fallOf logTop logTops logSlope logSlopes logBend logBends isNan lt eq sub add neg sum round size span climb units odd trailingZeros leadingZeros ofInt ofBits ofFields mul toBits
 log-of-4000 = refl
 
 log-of-4186 : log2Of topHz ≡ logOf4186
@@ -82,8 +82,8 @@ chosen-most weight last zero i t h = omega arith
 chosen-most weight last (suc n) i t h =
     either (λ (r : ℕ). r ≤ last) (lt (sub32 t (weight i)) zero32) i _ (omega arith) (chosen-most weight last n (suc i) (sub32 t (weight i)) (omega arith))
 
-last-is : (n : ℕ) → n ≤ 4000 → lastOf (n + 1) ≡ n
-unfolding lastOf
+last-is : (n : ℕ) → n ≤ 4000 → lastOctave (n + 1) ≡ n
+unfolding lastOctave
 last-is n h = omega arith
 
 -- ---- THE CLAIM
@@ -114,16 +114,16 @@ stepped : (first : Float) (j k c : ℕ) → At first j → 846 ≤ j → c ≤ k
 stepped first j k c p h l g u =
     from-at (add32 first (asFloat c)) (j + (1000 + c) - 1000) 256 (at-sum first (asFloat c) j (1000 + c) p (at-whole c (omega arith)) (omega arith) (omega arith) (omega arith)) (omega arith) (omega arith)
 
-pub first-at : (rootLog t : Float) (w : Range rootLog t) → At (firstOf rootLog) (w .first)
-unfolding firstOf
+pub first-at : (rootLog t : Float) (w : Range rootLog t) → At (firstOctave rootLog) (w .first)
+unfolding firstOctave
 first-at rootLog t w = rw log-of-20 (w .first-at)
 
-octaves-are : (rootLog upper : Float) (w : Range rootLog (log2Of upper)) → octavesOf rootLog (firstOf rootLog) upper ≡ (w .last - w .first) + 1
+octaves-are : (rootLog upper : Float) (w : Range rootLog (log2Of upper)) → octavesOf rootLog (firstOctave rootLog) upper ≡ (w .last - w .first) + 1
 unfolding octavesOf
-octaves-are rootLog upper w = counted (firstOf rootLog) (floor binary32 (sub32 (log2Of upper) rootLog)) (w .first) (w .last) (first-at rootLog (log2Of upper) w) (w .last-at) (omega (arith, w .least)) (w .to)
+octaves-are rootLog upper w = counted (firstOctave rootLog) (floor binary32 (sub32 (log2Of upper) rootLog)) (w .first) (w .last) (first-at rootLog (log2Of upper) w) (w .last-at) (omega (arith, w .least)) (w .to)
 
 octave-of : (index : ℕ) (rootLog upper : Float) (upward : Bool) → Range rootLog (log2Of upper) → WholeUpto 256 (octaveOf index rootLog upper upward)
-unfolding octaveOf drawnOf chosenOf
+unfolding octaveOf octaveDrawn octaveChosen
 octave-of index rootLog upper upward w =
     let e = last-is (w .last - w .first) (omega (arith, w .to)) in
     stepped _ (w .first) (w .last) _ (first-at rootLog (log2Of upper) w) (w .from)
@@ -138,7 +138,7 @@ module _ (rootHz maxHz : Float) (f : T (fits binary32 rootHz)) (h : T (lt nought
   root-ranged = ranged (upperOf maxHz) (upper-fits maxHz g l) (upper-from maxHz g l) (upper-to maxHz g l) rootHz f h k
 
   -- 7 octaves, or 8
-  pub octaves-few : SevenOrEight (octavesOf (log2Of rootHz) (firstOf (log2Of rootHz)) (upperOf maxHz))
+  pub octaves-few : SevenOrEight (octavesOf (log2Of rootHz) (firstOctave (log2Of rootHz)) (upperOf maxHz))
   octaves-few =
       let w = root-ranged in
       let e = octaves-are (log2Of rootHz) (upperOf maxHz) w in

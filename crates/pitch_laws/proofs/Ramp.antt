@@ -7,7 +7,7 @@ use lib.Ieee.Scale.{finite}
 use Rattle.floats.specs.Names.{f32, add32, sub32, mul32, zero32, half, two}
 use Rattle.floats_laws.proofs.Rising.{nought}
 use Rattle.elementary.specs.Rung.{rungOf, digitsOf}
-use Rattle.elementary.specs.LogCells.{tops, topOf, slopes, slopeOf, bends, bendOf}
+use Rattle.elementary.specs.LogCells.{logTops, logTop, logSlopes, logSlope, logBends, logBend}
 use Rattle.elementary.specs.Log2.{fallOf, cellOf, fractionOf, joinedOf, logOf, log2Of}
 use Rattle.elementary_laws.proofs.RootRises.{lowest, lowest-root}
 use Rattle.pitch.specs.Register.{minHz, lowProbability}
@@ -51,11 +51,11 @@ unfolding slope ramp mass massOf mul add sum round size span climb units odd tra
 mass-is = refl
 
 pub least-log : sub32 (log2Of leastHz) low ≡ f32 0x40f49a78
-unfolding low log2Of logOf rungOf digitsOf joinedOf fractionOf cellOf fallOf topOf tops slopeOf slopes bendOf bends isNan lt eq sub add neg sum round size span climb units odd trailingZeros leadingZeros ofInt ofBits ofFields mul toBits
+unfolding low log2Of logOf rungOf digitsOf joinedOf fractionOf cellOf fallOf logTop logTops logSlope logSlopes logBend logBends isNan lt eq sub add neg sum round size span climb units odd trailingZeros leadingZeros ofInt ofBits ofFields mul toBits
 least-log = refl
 
 pub most-log : sub32 (log2Of mostHz) low ≡ f32 0x411f73da
-unfolding low log2Of logOf rungOf digitsOf joinedOf fractionOf cellOf fallOf topOf tops slopeOf slopes bendOf bends isNan lt eq sub add neg sum round size span climb units odd trailingZeros leadingZeros ofInt ofBits ofFields mul toBits
+unfolding low log2Of logOf rungOf digitsOf joinedOf fractionOf cellOf fallOf logTop logTops logSlope logSlopes logBend logBends isNan lt eq sub add neg sum round size span climb units odd trailingZeros leadingZeros ofInt ofBits ofFields mul toBits
 most-log = refl
 
 pub least-rest : sub32 (f32 0x40f49a78) ramp ≡ f32 0x404bcd9c

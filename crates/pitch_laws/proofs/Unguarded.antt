@@ -31,7 +31,7 @@ use Rattle.elementary.proofs.Tested.{past-tests}
 use Rattle.settings.specs.declared.Direction.{Direction}
 use Rattle.pitch.specs.Register.{minHz}
 use Rattle.pitch.proofs.Logs.{log-of-full}
-use Rattle.pitch.specs.Octave.{upwardOf, lastOf, spanOf, firstOf, octavesOf, drawnOf, octaveOf, upperOf, registerOf}
+use Rattle.pitch.specs.Octave.{upwardOf, lastOctave, spanOf, firstOctave, octavesOf, octaveDrawn, octaveOf, upperOf, registerOf}
 use Rattle.pitch.specs.Cloud.{rampOf, frequencyOf}
 use Rattle.pitch_laws.specs.Guarded as guarded
 use Rattle.pitch_laws.proofs.Counts.{Range}
@@ -92,12 +92,12 @@ module _ (maxHz : Float) (f : T (fits binary32 maxHz)) (a : T (le leastHz maxHz)
 -- ---- Sprinkle: the count of octaves
 -- Of a root's logarithm and a top: the count is the same with its guard, and one less than it is above 1, so that the other guard says nothing.
 record Idle (rootLog upper : Float) : Type 0 where
-  count : guarded.octavesOf rootLog (firstOf rootLog) upper ≡ octavesOf rootLog (firstOf rootLog) upper
-  steps : 1 < lastOf (octavesOf rootLog (firstOf rootLog) upper)
+  count : guarded.octavesOf rootLog (firstOctave rootLog) upper ≡ octavesOf rootLog (firstOctave rootLog) upper
+  steps : 1 < lastOctave (octavesOf rootLog (firstOctave rootLog) upper)
 
 -- 7 octaves or 8
-first-fits : (rootLog : Float) → T (fits binary32 (firstOf rootLog))
-unfolding firstOf
+first-fits : (rootLog : Float) → T (fits binary32 (firstOctave rootLog))
+unfolding firstOctave
 first-fits rootLog =
     let x = sub32 (log2Of minHz) rootLog in
     subst (λ (z : Float). T (fits binary32 z)) (ceil-is binary32 x) (neg-fits binary32 (floor binary32 (neg x)) (floor-fits binary32 (neg x)))
@@ -113,16 +113,16 @@ unfolding max
 later x y k j f g p q h =
     rw (at-number x k p) (by-case (lt x y) (λ e. absurd (let l = at-not-below y x j k q p (not-above binary32 x y f g (lt→le x y e)) in omega arith)) (λ e. rw e))
 
-past-one : (n : ℕ) → SevenOrEight n → 1 < lastOf n
-unfolding lastOf
+past-one : (n : ℕ) → SevenOrEight n → 1 < lastOctave n
+unfolding lastOctave
 past-one n (inl e) = omega arith
 past-one n (inr e) = omega arith
 
-some : (rootLog upper : Float) → Range rootLog (log2Of upper) → SevenOrEight (octavesOf rootLog (firstOf rootLog) upper) → Idle rootLog upper
+some : (rootLog upper : Float) → Range rootLog (log2Of upper) → SevenOrEight (octavesOf rootLog (firstOctave rootLog) upper) → Idle rootLog upper
 unfolding guarded.octavesOf octavesOf
 some rootLog upper w n =
     record {
-      count = rw (later (floor binary32 (sub32 (log2Of upper) rootLog)) (firstOf rootLog) (w .last) (w .first) (floor-fits binary32 (sub32 (log2Of upper) rootLog)) (first-fits rootLog) (w .last-at) (first-at rootLog (log2Of upper) w) (omega (arith, w .least)));
+      count = rw (later (floor binary32 (sub32 (log2Of upper) rootLog)) (firstOctave rootLog) (w .last) (w .first) (floor-fits binary32 (sub32 (log2Of upper) rootLog)) (first-fits rootLog) (w .last-at) (first-at rootLog (log2Of upper) w) (omega (arith, w .least)));
       steps = past-one _ n;
     }
 
@@ -138,7 +138,7 @@ none (inf false) (fin s m e) h k = (refl, refl)
 none (fin t n d) (fin s m e) h k = absurd h
 
 none-idle : (rootLog upper : Float) → T (not (finite rootLog)) → T (finite (log2Of upper)) → Idle rootLog upper
-unfolding guarded.octavesOf octavesOf firstOf lastOf
+unfolding guarded.octavesOf octavesOf firstOctave lastOctave
 none-idle rootLog upper h k = let n = none rootLog (log2Of upper) h k in record { count = rw (low-is, n .0); steps = rw (low-is, n .1) (lit< tt) }
 
 -- a root is above 0 and finite, or its logarithm is not finite
@@ -151,16 +151,16 @@ rooted x =
     (λ a. by-case (eq x nought) (λ z. inr (rw (n, a, z) tt)) (λ z. by-case (eq x (inf false)) (λ i. inr (rw (n, a, z, i) tt)) (λ i. inl (past-tests x (ne-self x ∙ n) a z i)))))
 
 -- ---- Sprinkle: the octave
-span-same : (count : ℕ) → 1 < lastOf count → guarded.spanOf count ≡ spanOf count
+span-same : (count : ℕ) → 1 < lastOctave count → guarded.spanOf count ≡ spanOf count
 unfolding guarded.spanOf spanOf
-span-same count h = sym (picked (ltb 1 (lastOf count)) (asFloat (lastOf count)) (asFloat 1) (lt-ltb 1 (lastOf count) h))
+span-same count h = sym (picked (ltb 1 (lastOctave count)) (asFloat (lastOctave count)) (asFloat 1) (lt-ltb 1 (lastOctave count) h))
 
-drawn-same : (index : ℕ) (low : Float) (upward : Bool) (count : ℕ) → 1 < lastOf count → guarded.drawnOf index low upward count ≡ drawnOf index low upward count
-unfolding guarded.drawnOf drawnOf
+drawn-same : (index : ℕ) (low : Float) (upward : Bool) (count : ℕ) → 1 < lastOctave count → guarded.octaveDrawn index low upward count ≡ octaveDrawn index low upward count
+unfolding guarded.octaveDrawn octaveDrawn
 drawn-same index low upward count h = rw (span-same count h)
 
-first-same : (rootLog : Float) → guarded.firstOf rootLog minHz ≡ firstOf rootLog
-unfolding guarded.firstOf firstOf
+first-same : (rootLog : Float) → guarded.firstOctave rootLog minHz ≡ firstOctave rootLog
+unfolding guarded.firstOctave firstOctave
 first-same rootLog = refl
 
 one-least : T (le one leastHz)
@@ -195,4 +195,4 @@ module _ (maxHz : Float) (g : T (fits binary32 maxHz)) (l : T (le leastHz maxHz)
   register-same rootHz f index direction =
       let r = log2Of rootHz in
       let w = idle rootHz f in
-      rw (top-same, bottom-same, first-same r, w .count, drawn-same index _ (upwardOf direction index) (octavesOf r (firstOf r) (upperOf maxHz)) (w .steps))
+      rw (top-same, bottom-same, first-same r, w .count, drawn-same index _ (upwardOf direction index) (octavesOf r (firstOctave r) (upperOf maxHz)) (w .steps))

@@ -13,7 +13,7 @@ use Rattle.powers.specs.Power.{exp2}
 use Rattle.settings.specs.declared.Direction.{Direction}
 use Rattle.pitch.specs.Register.{minHz, fullHz, registerStrength}
 use Rattle.pitch.specs.declared.octaves.Register.{Register}
-use Rattle.pitch.specs.Octave.{upwardOf, lastOf, totalOf, chosenOf}
+use Rattle.pitch.specs.Octave.{upwardOf, lastOctave, totalOf, octaveChosen}
 use Rattle.pitch.specs.Cloud.{slopeOf, massOf, offsetOf}
 
 -- ---- sprinkle_register
@@ -25,29 +25,29 @@ unfoldable pub lowerOf : Float → Float
 lowerOf upper = min minHz (mul32 upper half)
 
 -- first = (lower.log2() - root_log).ceil(); last = (upper.log2() - root_log).floor().max(first); count = (last - first + 1.0) as u32
-unfoldable pub firstOf : Float → Float → Float
-firstOf rootLog lower = ceil binary32 (sub32 (log2Of lower) rootLog)
+unfoldable pub firstOctave : Float → Float → Float
+firstOctave rootLog lower = ceil binary32 (sub32 (log2Of lower) rootLog)
 
 unfoldable pub octavesOf : Float → Float → Float → ℕ
 octavesOf rootLog first upper = toUnsigned 32 (add32 (sub32 (max (floor binary32 (sub32 (log2Of upper) rootLog)) first) first) one)
 
 -- (count - 1).max(1) as f32
 unfoldable pub spanOf : ℕ → Float
-spanOf count = pick (ltb 1 (lastOf count)) (asFloat (lastOf count)) (asFloat 1)
+spanOf count = pick (ltb 1 (lastOctave count)) (asFloat (lastOctave count)) (asFloat 1)
 
 -- the octave chosen, with target = random(index, 2) * total
-unfoldable pub drawnOf : ℕ → Float → Bool → ℕ → ℕ
-drawnOf index low upward count =
+unfoldable pub octaveDrawn : ℕ → Float → Bool → ℕ → ℕ
+octaveDrawn index low upward count =
     let span = spanOf count in
     let target = mul32 (randomOf index 2) (totalOf low span upward count) in
-    chosenOf low span upward count target
+    octaveChosen low span upward count target
 
 -- first + chosen as f32
 unfoldable pub octaveOf : ℕ → Float → Float → Float → Bool → Float
 octaveOf index rootLog lower upper upward =
-    let first = firstOf rootLog lower in
+    let first = firstOctave rootLog lower in
     let count = octavesOf rootLog first upper in
-    add32 first (asFloat (drawnOf index (add32 rootLog first) upward count))
+    add32 first (asFloat (octaveDrawn index (add32 rootLog first) upward count))
 
 -- (octave, register_strength(root_log + octave))
 unfoldable pub registerOf : ℕ → Float → Float → Direction → Register

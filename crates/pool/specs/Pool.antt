@@ -31,9 +31,9 @@ freeParticle =
 
 -- ---- retirement
 -- p.retirement.get_or_insert(self.sample)
-abbrev pub firstOf : Retired → ℕ → ℕ
-firstOf Not now = now
-firstOf (At t) now = t
+abbrev pub firstRetirement : Retired → ℕ → ℕ
+firstRetirement Not now = now
+firstRetirement (At t) now = t
 
 -- p.source = None; p.retirement.get_or_insert(self.sample);
 unfoldable pub retiredOf : ℕ → Particle → Particle
@@ -50,7 +50,7 @@ retiredOf now p =
       attack = p .attack;
       «decay_power» = p .«decay_power»;
       partials = p .partials;
-      retirement = At (firstOf (p .retirement) now);
+      retirement = At (firstRetirement (p .retirement) now);
     }
 
 -- if p.active { .. }

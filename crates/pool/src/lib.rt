@@ -2,7 +2,7 @@
 // hold one.
 ghost use mathlib.Core.Path.{_≡_};
 ghost use mathlib.Core.List.{map};
-ghost use Rattle.pool.specs.Pool.{freeParticle, firstOf, retiredOf, retireOne, retireBoundOne, retuneOne};
+ghost use Rattle.pool.specs.Pool.{freeParticle, firstRetirement, retiredOf, retireOne, retireBoundOne, retuneOne};
 use sources::NO_SOURCE;
 
 mod vacancies;
@@ -58,7 +58,7 @@ pub fn free_particle() -> Particle
 
 // The first retirement stands.
 fn first(k: Retired, sample: u64) -> u64
-    ensures { λ r. ⌜ r ≡ firstOf k sample ⌝ }
+    ensures { λ r. ⌜ r ≡ firstRetirement k sample ⌝ }
 {
     match k {
         Retired::Not => sample,

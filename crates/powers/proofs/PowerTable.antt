@@ -10,32 +10,32 @@ use lib.Pow.{pow-pos}
 use lib.Ieee.Fits.{and-l, and-r}
 use Rattle.floats_laws.proofs.Naturals.{sum-rises, div-rises}
 use Rattle.sequences.specs.All.{all, all-at}
-use Rattle.powers.specs.PowerCells.{starts, slopes, bends, startOf, slopeOf, bendOf}
+use Rattle.powers.specs.PowerCells.{powerStarts, powerSlopes, powerBends, powerStart, powerSlope, powerBend}
 use Rattle.powers.specs.Power.{curve, inCell, mantissa}
 
 -- ---- what the entries are
 -- a start is 2^(62 + i / 64), to the nearest: 2 * start differs from 2^(63 + i / 64) by less than 1
 unfoldable nearestStart : ℕ → Bool
-nearestStart i = ltb ((2 * startOf i - 1) ^ 64) (2 ^ (4032 + i)) && ltb (2 ^ (4032 + i)) ((2 * startOf i + 1) ^ 64)
+nearestStart i = ltb ((2 * powerStart i - 1) ^ 64) (2 ^ (4032 + i)) && ltb (2 ^ (4032 + i)) ((2 * powerStart i + 1) ^ 64)
 
 starts-tested : T (all nearestStart 65)
-unfolding nearestStart startOf starts
+unfolding nearestStart powerStart powerStarts
 starts-tested = tt
 
-pub starts-nearest : (i : ℕ) → i < 65 → ((2 * startOf i - 1) ^ 64 < 2 ^ (4032 + i)) × (2 ^ (4032 + i) < (2 * startOf i + 1) ^ 64)
+pub starts-nearest : (i : ℕ) → i < 65 → ((2 * powerStart i - 1) ^ 64 < 2 ^ (4032 + i)) × (2 ^ (4032 + i) < (2 * powerStart i + 1) ^ 64)
 unfolding nearestStart
 starts-nearest i h =
-    let a = ltb ((2 * startOf i - 1) ^ 64) (2 ^ (4032 + i)) in
-    let b = ltb (2 ^ (4032 + i)) ((2 * startOf i + 1) ^ 64) in
+    let a = ltb ((2 * powerStart i - 1) ^ 64) (2 ^ (4032 + i)) in
+    let b = ltb (2 ^ (4032 + i)) ((2 * powerStart i + 1) ^ 64) in
     let t = all-at nearestStart 65 starts-tested i h in
-    (ltb→lt ((2 * startOf i - 1) ^ 64) (2 ^ (4032 + i)) (and-l a b t), ltb→lt (2 ^ (4032 + i)) ((2 * startOf i + 1) ^ 64) (and-r a b t))
+    (ltb→lt ((2 * powerStart i - 1) ^ 64) (2 ^ (4032 + i)) (and-l a b t), ltb→lt (2 ^ (4032 + i)) ((2 * powerStart i + 1) ^ 64) (and-r a b t))
 
 -- in the middle of a cell, at 2^(62 + (2 i + 1) / 128), the curve is off by at most 2^26, which is 2^-36 of it
 unfoldable nearMiddle : ℕ → Bool
 nearMiddle i = leb ((inCell i 33554432 - 67108864) ^ 128) (2 ^ (7937 + 2 * i)) && leb (2 ^ (7937 + 2 * i)) ((inCell i 33554432 + 67108864) ^ 128)
 
 middles-tested : T (all nearMiddle 64)
-unfolding nearMiddle startOf slopeOf bendOf starts slopes bends
+unfolding nearMiddle powerStart powerSlope powerBend powerStarts powerSlopes powerBends
 middles-tested = tt
 
 pub middles-near : (i : ℕ) → i < 64 → ((inCell i 33554432 - 67108864) ^ 128 ≤ 2 ^ (7937 + 2 * i)) × (2 ^ (7937 + 2 * i) ≤ (inCell i 33554432 + 67108864) ^ 128)
@@ -49,35 +49,35 @@ middles-near i h =
 -- a cell ends within 2^26 of the next one's start, its last place is not above it, and its coefficients are small
 unfoldable joins : ℕ → Bool
 joins i =
-    leb (inCell i 67108864) (startOf (suc i) + 67108864) && leb (startOf (suc i)) (inCell i 67108864 + 67108864)
-    && leb (inCell i 67108863) (startOf (suc i)) && ltb (slopeOf i) 2147483648 && ltb (bendOf i) 8388608
+    leb (inCell i 67108864) (powerStart (suc i) + 67108864) && leb (powerStart (suc i)) (inCell i 67108864 + 67108864)
+    && leb (inCell i 67108863) (powerStart (suc i)) && ltb (powerSlope i) 2147483648 && ltb (powerBend i) 8388608
 
 joins-tested : T (all joins 64)
-unfolding joins startOf slopeOf bendOf starts slopes bends
+unfolding joins powerStart powerSlope powerBend powerStarts powerSlopes powerBends
 joins-tested = tt
 
 pub record Joined (i : ℕ) : Type 0 where
-  pub not-far-above : inCell i 67108864 ≤ startOf (suc i) + 67108864
-  pub not-far-below : startOf (suc i) ≤ inCell i 67108864 + 67108864
-  pub rises : inCell i 67108863 ≤ startOf (suc i)
-  pub slope-small : slopeOf i < 2147483648
-  pub bend-small : bendOf i < 8388608
+  pub not-far-above : inCell i 67108864 ≤ powerStart (suc i) + 67108864
+  pub not-far-below : powerStart (suc i) ≤ inCell i 67108864 + 67108864
+  pub rises : inCell i 67108863 ≤ powerStart (suc i)
+  pub slope-small : powerSlope i < 2147483648
+  pub bend-small : powerBend i < 8388608
 
 pub joined : (i : ℕ) → i < 64 → Joined i
 unfolding joins
 joined i h =
-    let a = leb (inCell i 67108864) (startOf (suc i) + 67108864) in
-    let b = leb (startOf (suc i)) (inCell i 67108864 + 67108864) in
-    let c = leb (inCell i 67108863) (startOf (suc i)) in
-    let d = ltb (slopeOf i) 2147483648 in
-    let e = ltb (bendOf i) 8388608 in
+    let a = leb (inCell i 67108864) (powerStart (suc i) + 67108864) in
+    let b = leb (powerStart (suc i)) (inCell i 67108864 + 67108864) in
+    let c = leb (inCell i 67108863) (powerStart (suc i)) in
+    let d = ltb (powerSlope i) 2147483648 in
+    let e = ltb (powerBend i) 8388608 in
     let t = all-at joins 64 joins-tested i h in
     record {
-      not-far-above = leb→le (inCell i 67108864) (startOf (suc i) + 67108864) (and-l a b (and-l (a && b) c (and-l (a && b && c) d (and-l (a && b && c && d) e t))));
-      not-far-below = leb→le (startOf (suc i)) (inCell i 67108864 + 67108864) (and-r a b (and-l (a && b) c (and-l (a && b && c) d (and-l (a && b && c && d) e t))));
-      rises = leb→le (inCell i 67108863) (startOf (suc i)) (and-r (a && b) c (and-l (a && b && c) d (and-l (a && b && c && d) e t)));
-      slope-small = ltb→lt (slopeOf i) 2147483648 (and-r (a && b && c) d (and-l (a && b && c && d) e t));
-      bend-small = ltb→lt (bendOf i) 8388608 (and-r (a && b && c && d) e t);
+      not-far-above = leb→le (inCell i 67108864) (powerStart (suc i) + 67108864) (and-l a b (and-l (a && b) c (and-l (a && b && c) d (and-l (a && b && c && d) e t))));
+      not-far-below = leb→le (powerStart (suc i)) (inCell i 67108864 + 67108864) (and-r a b (and-l (a && b) c (and-l (a && b && c) d (and-l (a && b && c && d) e t))));
+      rises = leb→le (inCell i 67108863) (powerStart (suc i)) (and-r (a && b) c (and-l (a && b && c) d (and-l (a && b && c && d) e t)));
+      slope-small = ltb→lt (powerSlope i) 2147483648 (and-r (a && b && c) d (and-l (a && b && c && d) e t));
+      bend-small = ltb→lt (powerBend i) 8388608 (and-r (a && b && c && d) e t);
     }
 
 -- ---- the curve never falls: in a cell by its form, all-at cell to cell by the test
@@ -87,16 +87,16 @@ curve-rises t s b {p} {r} h = sum-rises t (mul-le-mul h (sum-rises s (div-rises 
 curve-above : (t s b r : ℕ) → t ≤ curve t s b r
 curve-above t s b r = le-add-right t _
 
-start-next : (i : ℕ) → i < 64 → startOf i ≤ startOf (suc i)
-start-next i h = le-trans (curve-above (startOf i) (slopeOf i) (bendOf i) 67108863) (joined i h .rises)
+start-next : (i : ℕ) → i < 64 → powerStart i ≤ powerStart (suc i)
+start-next i h = le-trans (curve-above (powerStart i) (powerSlope i) (powerBend i) 67108863) (joined i h .rises)
 
-starts-rise : (i j : ℕ) → i ≤ j → j ≤ 64 → startOf i ≤ startOf j
-starts-rise i zero h k = subst⁻¹ (λ (n : ℕ). startOf n ≤ startOf 0) (none i h) (le-refl (startOf 0))
+starts-rise : (i j : ℕ) → i ≤ j → j ≤ 64 → powerStart i ≤ powerStart j
+starts-rise i zero h k = subst⁻¹ (λ (n : ℕ). powerStart n ≤ powerStart 0) (none i h) (le-refl (powerStart 0))
   where
     none : (i : ℕ) → i ≤ 0 → i ≡ 0
     none i h = omega arith
 starts-rise i (suc j) h k = elim (eq-or-lt-of-le h) [
-  | inl e ↦ subst⁻¹ (λ (n : ℕ). startOf n ≤ startOf (suc j)) e (le-refl (startOf (suc j)))
+  | inl e ↦ subst⁻¹ (λ (n : ℕ). powerStart n ≤ powerStart (suc j)) e (le-refl (powerStart (suc j)))
   | inr l ↦ le-trans (starts-rise i j (le-of-suc-le-suc l) (before j k)) (start-next j k)
 ]
   where
@@ -126,27 +126,27 @@ mantissa-rises {f} {g} h k =
     let j = g / 67108864 in
     let J = in-table g k in
     elim (eq-or-lt-of-le (cells-rise f g h)) [
-      | inl e ↦ subst (λ (n : ℕ). inCell i (f % 67108864) ≤ inCell n (g % 67108864)) e (curve-rises (startOf i) (slopeOf i) (bendOf i) (places-rise f g h e))
+      | inl e ↦ subst (λ (n : ℕ). inCell i (f % 67108864) ≤ inCell n (g % 67108864)) e (curve-rises (powerStart i) (powerSlope i) (powerBend i) (places-rise f g h e))
       | inr l ↦
-          le-trans (curve-rises (startOf i) (slopeOf i) (bendOf i) (last-place f))
+          le-trans (curve-rises (powerStart i) (powerSlope i) (powerBend i) (last-place f))
           (le-trans (joined i (lt-of-lt-of-le l (weak j J)) .rises)
-          (le-trans (starts-rise (suc i) j l (weak j J)) (curve-above (startOf j) (slopeOf j) (bendOf j) (g % 67108864))))
+          (le-trans (starts-rise (suc i) j l (weak j J)) (curve-above (powerStart j) (powerSlope j) (powerBend j) (g % 67108864))))
     ]
 
 -- ---- it stays from 2^62 to below 2^63
-first : startOf 0 ≡ 4611686018427387904
-unfolding startOf starts
+first : powerStart 0 ≡ 4611686018427387904
+unfolding powerStart powerStarts
 first = refl
 
 ends : inCell 63 67108863 ≤ 9223372036854775807
-unfolding startOf slopeOf bendOf starts slopes bends
+unfolding powerStart powerSlope powerBend powerStarts powerSlopes powerBends
 ends = leb→le (inCell 63 67108863) 9223372036854775807 tt
 
 pub mantissa-low : (f : ℕ) → f < 4294967296 → 4611686018427387904 ≤ mantissa f
 unfolding mantissa
 mantissa-low f h =
     let i = f / 67108864 in
-    le-trans (subst (λ (n : ℕ). n ≤ startOf i) first (starts-rise 0 i zero-le (weak i (in-table f h)))) (curve-above (startOf i) (slopeOf i) (bendOf i) (f % 67108864))
+    le-trans (subst (λ (n : ℕ). n ≤ powerStart i) first (starts-rise 0 i zero-le (weak i (in-table f h)))) (curve-above (powerStart i) (powerSlope i) (powerBend i) (f % 67108864))
 
 at-end : mantissa 4294967295 ≤ 9223372036854775807
 unfolding mantissa

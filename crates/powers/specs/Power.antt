@@ -7,7 +7,7 @@
 use Prim.Native.Nat.{ℕ, _+_, _*_, _/_, _%_}
 use lib.Ieee.{Float, binary32, binary64, ofBits, toBits}
 use Rattle.floats.specs.Names.{f32, f64, add64, mul64, div32}
-use Rattle.powers.specs.PowerCells.{startOf, slopeOf, bendOf}
+use Rattle.powers.specs.PowerCells.{powerStart, powerSlope, powerBend}
 use Rattle.powers.specs.Placed.{edged, placed32}
 
 -- z
@@ -19,7 +19,7 @@ abbrev pub curve : ℕ → ℕ → ℕ → ℕ → ℕ
 curve start slope bend r = start + r * (slope + bend * r / 67108864)
 
 abbrev pub inCell : ℕ → ℕ → ℕ
-inCell i r = curve (startOf i) (slopeOf i) (bendOf i) r
+inCell i r = curve (powerStart i) (powerSlope i) (powerBend i) r
 
 unfoldable pub mantissa : ℕ → ℕ
 mantissa f = inCell (f / 67108864) (f % 67108864)

@@ -1,7 +1,7 @@
 // The 64 cells of a power's fraction, as a `match`, which becomes read-only tables.
 ghost use mathlib.Core.Path.{_≡_};
 ghost use Prim.Native.Nat.{_<_};
-ghost use Rattle.powers.specs.PowerCells.{startOf, slopeOf, bendOf};
+ghost use Rattle.powers.specs.PowerCells.{powerStart, powerSlope, powerBend};
 
 pub struct Cell {
     pub start: u64,
@@ -11,7 +11,7 @@ pub struct Cell {
 
 pub fn cell_of(i: u64) -> Cell
     requires { ⌜ i < 64 ⌝ }
-    ensures { λ r. ⌜ (r .start ≡ startOf i) × (r .slope ≡ slopeOf i) × (r .bend ≡ bendOf i) ⌝ }
+    ensures { λ r. ⌜ (r .start ≡ powerStart i) × (r .slope ≡ powerSlope i) × (r .bend ≡ powerBend i) ⌝ }
 {
     match i {
         0 => Cell {

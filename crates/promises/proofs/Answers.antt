@@ -143,7 +143,7 @@ fired-reply before t = go (t .outcome)
 framed-reply : (before : Run) (f : Framed) → replyNumber (steps.framedStep before f .reply) ≡ answerOf (f .answer)
 framed-reply before f = go (f .answer)
   where
-    go : (a : Answer) → replyNumber (steps.frameOf before (f .engine) (f .frame) a .reply) ≡ answerOf a
+    go : (a : Answer) → replyNumber (steps.frameStep before (f .engine) (f .frame) a .reply) ≡ answerOf a
     go Taken = refl
     go (Refused r) = refl
 

@@ -32,7 +32,7 @@ use Rattle.mask_records.specs.declared.Written.the-variants as W
 use Rattle.mask_records.specs.declared.Read as reader
 use Rattle.mask_records.specs.declared.Read.the-variants as M
 use Rattle.mask_records.specs.Entries.{attenuationAt}
-use Rattle.mask_records.specs.Written.{writtenOf}
+use Rattle.mask_records.specs.Written.{recordWritten}
 use Rattle.mask_records.specs.Found as records-in
 use Rattle.mask_files.specs.declared.Filed.{Filed}
 use Rattle.mask_files.specs.declared.Filed.the-variants as Files
@@ -136,7 +136,7 @@ recorded true true false false true false p x scratch y out = (refl, λ n. (refl
 recorded true true false false true true p x scratch y out = (refl, λ n. absurd (n refl))
 
 module _ (sample : ℕ) (f : Frame) (depth : Float) (logs scratch : List Float) (out : List ℕ) (at : ℕ) where
-  record-written : (recordNumber (writtenOf sample f depth logs scratch out at .0)
+  record-written : (recordNumber (recordWritten sample f depth logs scratch out at .0)
       ≡ firstOf
       ((not (eqb (length scratch) (length logs)), 5)
       ∷ (not (lawfulLogs logs), 6)
@@ -144,9 +144,9 @@ module _ (sample : ℕ) (f : Frame) (depth : Float) (logs scratch : List Float) 
       ∷ (not (all (λ i. not (isNan (attenuationAt f depth logs i))) (length logs)), 18)
       ∷ (not (leb (at + (16 + 2 * length logs)) (length out)), 13)
       ∷ []))
-      × ((recordNumber (writtenOf sample f depth logs scratch out at .0) ≡ 0 → ⊥)
-      → (writtenOf sample f depth logs scratch out at .1 ≡ scratch) × (writtenOf sample f depth logs scratch out at .2 ≡ out))
-  unfolding writtenOf
+      × ((recordNumber (recordWritten sample f depth logs scratch out at .0) ≡ 0 → ⊥)
+      → (recordWritten sample f depth logs scratch out at .1 ≡ scratch) × (recordWritten sample f depth logs scratch out at .2 ≡ out))
+  unfolding recordWritten
   record-written =
       recorded (eqb (length scratch) (length logs)) (lawfulLogs logs) (ltb (length logs) 1) (ltb 8193 (length logs)) (all (λ i. not (isNan (attenuationAt f depth logs i))) (length logs)) (leb (at + (16 + 2 * length logs)) (length out)) _ _ scratch _ out
 
@@ -164,9 +164,9 @@ handed false true true false v n k y lent = (refl, λ u. refl)
 handed false true true true v n k y lent = (refl, λ u. absurd (u refl))
 
 module _ (s lent : List ℕ) where
-  record-read : (foundNumber (records-in.readOf s lent .0) ≡ firstOf ((eqb (length s) 0, 0) ∷ (badRecord s, 19) ∷ (not (leb (be16 s 11) (length lent)), 13) ∷ []))
-      × ((foundNumber (records-in.readOf s lent .0) ≡ 0 → ⊥) → records-in.readOf s lent .1 ≡ lent)
-  unfolding records-in.readOf records-in.headed
+  record-read : (foundNumber (records-in.recordRead s lent .0) ≡ firstOf ((eqb (length s) 0, 0) ∷ (badRecord s, 19) ∷ (not (leb (be16 s 11) (length lent)), 13) ∷ []))
+      × ((foundNumber (records-in.recordRead s lent .0) ≡ 0 → ⊥) → records-in.recordRead s lent .1 ≡ lent)
+  unfolding records-in.recordRead records-in.headed
   record-read = handed (eqb (length s) 0) (records-in.headed s) (all (λ i. isEntry (be16 s (16 + 2 * i))) (be16 s 11)) (leb (be16 s 11) (length lent)) _ _ _ _ lent
 
 -- ---- the mask file of a script

@@ -16,7 +16,7 @@ use Rattle.floats.specs.Names.{f64}
 use Rattle.pool.specs.declared.Particle.{Particle}
 use Rattle.pool.specs.declared.Retired.{Retired}
 use Rattle.pool.specs.declared.Retired.the-variants.{Not, At}
-use Rattle.pool.specs.Pool.{freeParticle, firstOf, retiredOf, retireOne, retireBoundOne, retunedOf, retuneOne}
+use Rattle.pool.specs.Pool.{freeParticle, firstRetirement, retiredOf, retireOne, retireBoundOne, retunedOf, retuneOne}
 use Rattle.pool.specs.Vacancies.{freePlace}
 use Rattle.pool.proofs.Lowest.{lowest-free, held-below}
 use Rattle.state.specs.declared.Engine.{Engine}
@@ -59,7 +59,7 @@ pub due-is : (e : Engine) (p : Particle) → due e (lifeOf p) ≡ dueOf (e .cloc
 unfolding due dueOf secondsOf
 due-is e p = ap (λ (x : Float). le (p .lifetime) (age e (lifeOf p)) || le (f64 0x3ff0000000000000) x) (sym (faded-is e (p .retirement)))
 
-first-is : (x : Retired) (now : ℕ) → firstRetired x now ≡ At (firstOf x now)
+first-is : (x : Retired) (now : ℕ) → firstRetired x now ≡ At (firstRetirement x now)
 first-is Not now = refl
 first-is (At since) now = refl
 

@@ -18,7 +18,7 @@ use Rattle.draws.specs.Draws.{mixOf, keyOf, randomOf}
 use Rattle.elementary.specs.Rung.{rungOf, digitsOf}
 use Rattle.elementary.specs.Sqrt.{scaledOf, rootBits, sqrtOf}
 use Rattle.elementary.proofs.Squares.{root-is, perfect}
-use Rattle.pitch.specs.Partials.{countOf, keptOf, allowedOf, sumOf, harmonicFrom, harmonicOf, withoutOf, drawnFrom, drawnOf, partialsOf}
+use Rattle.pitch.specs.Partials.{partialCount, keptOf, allowedOf, sumOf, harmonicFrom, harmonicOf, withoutOf, drawnFrom, partialsDrawn, partialsOf}
 use Rattle.pitch_laws.proofs.Harmonics.{no-room}
 use Rattle.settings.specs.Mending.{finiteOr, phaseOf}
 use Rattle.state.specs.declared.Engine.{Engine}
@@ -85,17 +85,17 @@ unfolding drawnFrom sumOf walk add sum round size span climb units odd lt le eq 
 no-more index zero = refl
 no-more index (suc n) = refl
 
-one-turn : (index n : ℕ) → drawnOf index alone (suc n) ≡ 1 ∷ 0 ∷ 0 ∷ []
-unfolding drawnOf drawnFrom sumOf walk withoutOf add sum round size span climb units odd lt le eq ofBits ofFields neg pick
+one-turn : (index n : ℕ) → partialsDrawn index alone (suc n) ≡ 1 ∷ 0 ∷ 0 ∷ []
+unfolding partialsDrawn drawnFrom sumOf walk withoutOf add sum round size span climb units odd lt le eq ofBits ofFields neg pick
 one-turn index n =
     let target = mul32 (randomOf index 13) one in
     ap (λ (h : ℕ). drawnFrom index n 1 (withoutOf alone h) (set (0 ∷ 0 ∷ 0 ∷ []) 0 h)) (first-harmonic target) ∙ no-more index n
 
 picked-alone : (index : ℕ) → partialsOf index (replicate 24 one) 24 (f32 0x3fc00000) ≡ 1 ∷ 0 ∷ 0 ∷ []
-unfolding partialsOf countOf
+unfolding partialsOf partialCount
 picked-alone index =
-    let P : ℕ → Type 0 = λ n. drawnOf index alone n ≡ 1 ∷ 0 ∷ 0 ∷ [] in
-    ap (λ (ws : List Float). drawnOf index ws (countOf (randomOf index 12))) kept
+    let P : ℕ → Type 0 = λ n. partialsDrawn index alone n ≡ 1 ∷ 0 ∷ 0 ∷ [] in
+    ap (λ (ws : List Float). partialsDrawn index ws (partialCount (randomOf index 12))) kept
     ∙ either P _ _ _ (one-turn index 0) (either P _ _ _ (one-turn index 1) (one-turn index 2))
 
 -- ---- 8

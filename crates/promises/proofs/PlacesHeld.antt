@@ -28,7 +28,7 @@ use Rattle.script_steps.specs.declared.Run.{Run}
 use Rattle.script_steps.specs.declared.Reply.{Reply}
 use Rattle.script_steps.specs.declared.Reply.the-variants as R
 use Rattle.script_steps.specs.declared.Stepped.{Stepped}
-use Rattle.script_steps.specs.Steps.{fresh, answeredOf, doneOf, outcomeStep, firedOf, frameOf, framedStep, sourceOf, stepOf}
+use Rattle.script_steps.specs.Steps.{fresh, answeredOf, doneOf, outcomeStep, firedOf, frameStep, framedStep, sourceOf, stepOf}
 use Rattle.script.specs.declared.Read.{Read}
 use Rattle.script.specs.declared.Read.the-variants as S
 use Rattle.script.specs.Field.{readOf}
@@ -80,7 +80,7 @@ framed-told : (before : Run) (f : Framed) → Numbered (f .engine) → Told (fra
 unfolding valuesOf
 framed-told before f w = go (f .answer)
   where
-    go : (a : Answer) → Told (frameOf before (f .engine) (f .frame) a)
+    go : (a : Answer) → Told (frameStep before (f .engine) (f .frame) a)
     go A.Taken = (w, w .number)
     go (A.Refused r) = (w, tt)
 

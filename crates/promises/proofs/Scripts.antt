@@ -39,7 +39,7 @@ use Rattle.script_writer_laws.specs.Events.{events}
 use Rattle.script_steps.specs.declared.Run.{Run}
 use Rattle.script_steps.specs.declared.Reply.{Reply}
 use Rattle.script_steps.specs.declared.Reply.the-variants as R
-use Rattle.script_steps.specs.Steps.{fresh, answeredOf, doneOf, outcomeStep, firedOf, frameOf, framedStep, sourceOf, stepOf}
+use Rattle.script_steps.specs.Steps.{fresh, answeredOf, doneOf, outcomeStep, firedOf, frameStep, framedStep, sourceOf, stepOf}
 use Rattle.listing.specs.declared.turns.Turn.{Turn}
 use Rattle.listing.specs.Turns.{toldOf, refusalOf, repliedOf, turnsOf}
 use Rattle.promises.specs.Over.{lastLine, turnsOver}
@@ -72,7 +72,7 @@ fired-engine before t = go (t .outcome)
 framed-engine : (before : Run) (f : Framed) → framedStep before f .run .engine ≡ f .engine
 framed-engine before f = go (f .answer)
   where
-    go : (a : Answer) → frameOf before (f .engine) (f .frame) a .run .engine ≡ f .engine
+    go : (a : Answer) → frameStep before (f .engine) (f .frame) a .run .engine ≡ f .engine
     go A.Taken = refl
     go (A.Refused r) = refl
 

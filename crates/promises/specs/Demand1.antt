@@ -88,7 +88,7 @@ pub record Demand1 : Type 0 where
       → (gainsOf f depth logs scratch output .1 ≡ scratch) × (gainsOf f depth logs scratch output .2 ≡ output)
   -- order 5, a frame's record: 5, 6, 19, 18, 13 in this order, and nothing lent is changed
   pub write-record : (sample : ℕ) (f : Frame) (depth : Float) (logs scratch : List Float) (out : List ℕ) (at : ℕ)
-      → recordNumber (records.writtenOf sample f depth logs scratch out at .0)
+      → recordNumber (records.recordWritten sample f depth logs scratch out at .0)
       ≡ firstOf
       ((not (eqb (length scratch) (length logs)), 5)
       ∷ (not (lawfulLogs logs), 6)
@@ -97,17 +97,17 @@ pub record Demand1 : Type 0 where
       ∷ (not (leb (at + (16 + 2 * length logs)) (length out)), 13)
       ∷ [])
   pub write-record-leaves : (sample : ℕ) (f : Frame) (depth : Float) (logs scratch : List Float) (out : List ℕ) (at : ℕ)
-      → (recordNumber (records.writtenOf sample f depth logs scratch out at .0) ≡ 0 → ⊥)
-      → (records.writtenOf sample f depth logs scratch out at .1 ≡ scratch) × (records.writtenOf sample f depth logs scratch out at .2 ≡ out)
+      → (recordNumber (records.recordWritten sample f depth logs scratch out at .0) ≡ 0 → ⊥)
+      → (records.recordWritten sample f depth logs scratch out at .1 ≡ scratch) × (records.recordWritten sample f depth logs scratch out at .2 ≡ out)
   -- order 5, a record at the start of bytes: no bytes at all is the end; 19 and 13 in this order
   pub read-record : (s lent : List ℕ)
-      → foundNumber (records-in.readOf s lent .0)
+      → foundNumber (records-in.recordRead s lent .0)
       ≡ firstOf
       ((eqb (length s) 0, 0)
       ∷ (badRecord s, 19)
       ∷ (not (leb (be16 s 11) (length lent)), 13)
       ∷ [])
-  pub read-record-leaves : (s lent : List ℕ) → (foundNumber (records-in.readOf s lent .0) ≡ 0 → ⊥) → records-in.readOf s lent .1 ≡ lent
+  pub read-record-leaves : (s lent : List ℕ) → (foundNumber (records-in.recordRead s lent .0) ≡ 0 → ⊥) → records-in.recordRead s lent .1 ≡ lent
   -- order 5, the mask file of a script: 3, 12, then what ends the records, 18 at a frame or the number that the script goes bad with, then 13; nothing is written
   pub masks : (script : List ℕ) (size : ℕ) (depth : Float) (out : List ℕ) (at : ℕ)
       → let filed = filedOf depth (logsFor script size) (turnsOf script) in

@@ -17,8 +17,8 @@ use Rattle.mask_records.specs.declared.Read.the-variants.{Found}
 use Rattle.mask_records.specs.Bytes.{recordOf, fileOf}
 use Rattle.mask_records.specs.Entries.{attenuationAt}
 use Rattle.mask_records.specs.Placed.{recordSize}
-use Rattle.mask_records.specs.Written.{entriesOf, writtenOf}
-use Rattle.mask_records.specs.Found.{readOf}
+use Rattle.mask_records.specs.Written.{entriesOf, recordWritten}
+use Rattle.mask_records.specs.Found.{recordRead}
 use Rattle.mask_laws.specs.Files.{Record, WholeRecord, ReadsAs}
 use Rattle.text.specs.Put.{splice}
 use Rattle.mask_files.specs.declared.Filed.the-variants as Files
@@ -44,13 +44,13 @@ pub record MaskFiles : Type 0 where
   pub in-the-table : (f : Frame) (depth : Float) (logs : List Float) (bin : ℕ) → bin < length logs → isEntry (getD (entriesOf f depth logs) bin 0) ≡ true
   pub ones : (f : Frame) (depth : Float) (logs : List Float) → quietOf depth (f .activity) ≡ true → (bin : ℕ) → bin < length logs → getD (entriesOf f depth logs) bin 0 ≡ 32768
   -- a frame's record that was written is read back, sample, count and entries, from the place where it begins; what stands behind it does not matter
-  pub read-back : (sample : ℕ) (f : Frame) (depth : Float) (logs scratch : List Float) (out : List ℕ) (at p : ℕ) → writtenOf sample f depth logs scratch out at .0 ≡ Upto p
+  pub read-back : (sample : ℕ) (f : Frame) (depth : Float) (logs scratch : List Float) (out : List ℕ) (at p : ℕ) → recordWritten sample f depth logs scratch out at .0 ≡ Upto p
       → (lent : List ℕ) → length logs ≤ length lent
-      → readOf (drop at (writtenOf sample f depth logs scratch out at .2)) lent ≡ (Found sample (length logs) (recordSize (length logs)), entriesOf f depth logs ++ drop (length logs) lent)
+      → recordRead (drop at (recordWritten sample f depth logs scratch out at .2)) lent ≡ (Found sample (length logs) (recordSize (length logs)), entriesOf f depth logs ++ drop (length logs) lent)
   -- a file of records is read back, record after record, to its end
   pub file-back : (rs : List Record) → Every WholeRecord rs → ReadsAs (fileOf rs) rs
   -- a record that was read, and is written again entry by entry, has the bytes that were read
-  pub written-again : (s : List ℕ) → Every Byte s → (lent : List ℕ) (sample n k : ℕ) → readOf s lent .0 ≡ Found sample n k → recordOf sample (take n (readOf s lent .1)) ≡ take k s
+  pub written-again : (s : List ℕ) → Every Byte s → (lent : List ℕ) (sample n k : ℕ) → recordRead s lent .0 ≡ Found sample n k → recordOf sample (take n (recordRead s lent .1)) ≡ take k s
   -- the mask file of a script: where the call takes it, the records of its accepted frames, each by its sample and its entries, stand in the buffer one behind the other, the rest of it stays, and the reader finds them
   pub script-file : (script : List ℕ) (size : ℕ) (depth : Float) (out : List ℕ) (at p : ℕ) → masksOf script size depth out at .0 ≡ Files.Upto p
       → let rs = recordsOf script size depth in

@@ -13,7 +13,7 @@ use Rattle.settings.specs.declared.Direction.{Direction}
 use Rattle.settings.specs.declared.Shape.the-variants.{Sprinkle, Cloud}
 use Rattle.settings.specs.Settings.{lawfulRate}
 use Rattle.pitch.specs.Register.{minHz}
-use Rattle.pitch.specs.Octave.{firstOf, octavesOf, upperOf, registerOf}
+use Rattle.pitch.specs.Octave.{firstOctave, octavesOf, upperOf, registerOf}
 use Rattle.pitch.specs.Cloud.{rampOf, frequencyOf}
 use Rattle.pitch_laws.specs.Guarded as guarded
 use Rattle.pitch.specs.Highest.{maxHzOf}
@@ -40,7 +40,7 @@ sampleRateOf e = e .prepared .«sample_rate»
 -- ---- what the ranges hold
 -- the count of octaves of a root from 20 Hz to Sprinkle's top
 abbrev pub octavesOn : Float → Float → ℕ
-octavesOn maxHz root = octavesOf (log2Of root) (firstOf (log2Of root)) (upperOf maxHz)
+octavesOn maxHz root = octavesOf (log2Of root) (firstOctave (log2Of root)) (upperOf maxHz)
 
 -- the free Cloud's octaves from 20 to 440 Hz, and from 20 Hz to the highest frequency
 abbrev pub ramp : Float

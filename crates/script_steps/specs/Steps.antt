@@ -35,38 +35,38 @@ fresh = record { engine = newEngineOf (f32 0x473b8000) .engine; frame = emptyFra
 abbrev pub withEngine : Run → Engine → Run
 withEngine run e = record { engine = e; frame = run .frame }
 
-abbrev pub quietOf : Run → Engine → Stepped
-quietOf run e = record { run = withEngine run e; reply = R.Quiet }
+abbrev pub quietStep : Run → Engine → Stepped
+quietStep run e = record { run = withEngine run e; reply = R.Quiet }
 
-abbrev pub refusedOf : Run → Engine → Refusal → Stepped
-refusedOf run e r = record { run = withEngine run e; reply = R.Refused r }
+abbrev pub refusedStep : Run → Engine → Refusal → Stepped
+refusedStep run e r = record { run = withEngine run e; reply = R.Refused r }
 
 abbrev pub answeredOf : Run → Engine → Answer → Stepped
-answeredOf run e A.Taken = quietOf run e
-answeredOf run e (A.Refused r) = refusedOf run e r
+answeredOf run e A.Taken = quietStep run e
+answeredOf run e (A.Refused r) = refusedStep run e r
 
 abbrev pub doneOf : Run → Done → Stepped
 doneOf run d = answeredOf run (d .engine) (d .answer)
 
 -- born, not eligible and dropped print nothing
 abbrev pub outcomeStep : Run → Engine → Outcome → Stepped
-outcomeStep run e O.Born = quietOf run e
-outcomeStep run e O.NotEligible = quietOf run e
-outcomeStep run e O.Dropped = quietOf run e
-outcomeStep run e (O.Refused r) = refusedOf run e r
+outcomeStep run e O.Born = quietStep run e
+outcomeStep run e O.NotEligible = quietStep run e
+outcomeStep run e O.Dropped = quietStep run e
+outcomeStep run e (O.Refused r) = refusedStep run e r
 
 abbrev pub firedOf : Run → Triggered → Stepped
 firedOf run t = outcomeStep run (t .engine) (t .outcome)
 
-abbrev pub shownOf : Engine → Frame → Stepped
-shownOf e f = record { run = record { engine = e; frame = f }; reply = R.Framed (valuesOf e (f .activity)) }
+abbrev pub shownStep : Engine → Frame → Stepped
+shownStep e f = record { run = record { engine = e; frame = f }; reply = R.Framed (valuesOf e (f .activity)) }
 
-abbrev pub frameOf : Run → Engine → Frame → Answer → Stepped
-frameOf run e f A.Taken = shownOf e f
-frameOf run e f (A.Refused r) = refusedOf run e r
+abbrev pub frameStep : Run → Engine → Frame → Answer → Stepped
+frameStep run e f A.Taken = shownStep e f
+frameStep run e f (A.Refused r) = refusedStep run e r
 
 abbrev pub framedStep : Run → Framed → Stepped
-framedStep run f = frameOf run (f .engine) (f .frame) (f .answer)
+framedStep run f = frameStep run (f .engine) (f .frame) (f .answer)
 
 abbrev pub sourceOf : Float → Float → Bool → Source
 sourceOf frequency strength eligible = record { «frequency_hz» = frequency; strength = strength; eligible = eligible }
@@ -78,10 +78,10 @@ stepOf run (F.Source s f g b) = doneOf run (setSourceOf (run .engine) s (sourceO
 stepOf run (F.Retire s) = doneOf run (retireSourceOf (run .engine) s)
 stepOf run (F.Release s) = doneOf run (releaseSourceOf (run .engine) s)
 stepOf run (F.Trigger s) = firedOf run (triggeredOf (run .engine) s)
-stepOf run (F.Seek x) = quietOf run (soughtOf (run .engine) x)
+stepOf run (F.Seek x) = quietStep run (soughtOf (run .engine) x)
 stepOf run (F.Advance n) = doneOf run (advancedOf (run .engine) n)
 stepOf run (F.Frame b x) = framedStep run (takeFrameOf (run .engine) b x)
-stepOf run (F.NoteInput b) = quietOf run (notesOf (run .engine) b)
-stepOf run F.Reset = quietOf run (resetOf (run .engine))
-stepOf run F.Reserve = quietOf run (reservedOf (run .engine) .engine)
+stepOf run (F.NoteInput b) = quietStep run (notesOf (run .engine) b)
+stepOf run F.Reset = quietStep run (resetOf (run .engine))
+stepOf run F.Reserve = quietStep run (reservedOf (run .engine) .engine)
 stepOf run (F.ReservedTrigger s i) = firedOf run (triggeredBy (run .engine) s i)

@@ -7,7 +7,7 @@ use borrow.Author.Tests.{leb-true, leb-false, le-leb, ltb-true, ltb-false, lt-lt
 use Rattle.sequences.specs.Pick.{pick, by-case}
 use Rattle.settings.specs.declared.Config.{Config}
 use Rattle.settings.specs.Settings.{checkedOf}
-use Rattle.settings.specs.Mending.{mendedOf, partialsOf}
+use Rattle.settings.specs.Mending.{mendedOf, partialsHeld}
 use Rattle.state.specs.declared.Engine.{Engine}
 use Rattle.engine.specs.Changes.{configuredOf}
 use Rattle.script.specs.declared.fields.Field.the-variants as F
@@ -27,11 +27,11 @@ held-above : (n m : ℕ) → m < 4294967295 → m < n → m < held32 n
 unfolding held32
 held-above n m l h = by-case (leb n 4294967295) (λ y. rw y h) (λ y. rw y l)
 
-partials-alike : (n : ℕ) → partialsOf (held32 n) ≡ partialsOf n
-unfolding partialsOf pick held32
+partials-alike : (n : ℕ) → partialsHeld (held32 n) ≡ partialsHeld n
+unfolding partialsHeld pick held32
 partials-alike n =
     by-case (leb n 4294967295)
-    (λ y. ap partialsOf (held-same n (leb-true _ _ y)))
+    (λ y. ap partialsHeld (held-same n (leb-true _ _ y)))
     (λ y. let h = leb-false n 4294967295 y in rw (y, le-ltb n 1 (omega arith), lt-ltb 24 n (omega arith)))
 
 pub engine-alike : (e : Engine) (c : Config) → configuredOf e (heldConfig c) ≡ configuredOf e c

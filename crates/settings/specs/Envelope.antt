@@ -36,8 +36,8 @@ unfoldable pub releaseOf : Float → Float → Float → Float
 releaseOf release floor onset = max (max (mul32 release milli) minStage) (sub32 floor onset)
 
 -- let lifetime = onset + release; (lifetime, onset / lifetime)
-unfoldable pub sprinkleOf : Float → Float → Float → Contour
-sprinkleOf attack release floor =
+unfoldable pub sprinkleContour : Float → Float → Float → Contour
+sprinkleContour attack release floor =
     let onset = onsetOf attack in
     let life = add32 onset (releaseOf release floor onset) in
     record { lifetime = life; attack = div32 onset life }
@@ -69,17 +69,17 @@ cloudAttackOf Forward index = cloudAttack
 cloudAttackOf Reverse index = reverseAttack
 cloudAttackOf Alternate index = pick (eqb (index % 2) 0) cloudAttack reverseAttack
 
-unfoldable pub cloudOf : Config → ℕ → Float → Contour
-cloudOf c index floor =
+unfoldable pub cloudContour : Config → ℕ → Float → Contour
+cloudContour c index floor =
     record {
       lifetime = cloudLifetimeOf (c .«size_octaves») (c .«rate_hz») index floor;
       attack = cloudAttackOf (c .direction) index;
     }
 
 -- ---- both
-unfoldable pub byShape : Shape → Config → ℕ → Float → Contour
-byShape Sprinkle c index floor = sprinkleOf (c .«attack_ms») (c .«release_ms») floor
-byShape Cloud c index floor = cloudOf c index floor
+unfoldable pub contourBy : Shape → Config → ℕ → Float → Contour
+contourBy Sprinkle c index floor = sprinkleContour (c .«attack_ms») (c .«release_ms») floor
+contourBy Cloud c index floor = cloudContour c index floor
 
 unfoldable pub contourOf : Config → ℕ → Float → Contour
-contourOf c index rate = byShape (c .shape) c index (hopFloorOf (c .«hop_samples») rate)
+contourOf c index rate = contourBy (c .shape) c index (hopFloorOf (c .«hop_samples») rate)

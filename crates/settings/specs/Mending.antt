@@ -27,20 +27,20 @@ abbrev pub releaseMsOf : Float → Float
 releaseMsOf x = heldTo x (f32 0x428c0000) zero32 (f32 0x459c4000)
 
 -- config.partials.clamp(1, MAX_PARTIALS)
-unfoldable pub partialsOf : ℕ → ℕ
-partialsOf n = pick (ltb n 1) 1 (pick (ltb 24 n) 24 n)
+unfoldable pub partialsHeld : ℕ → ℕ
+partialsHeld n = pick (ltb n 1) 1 (pick (ltb 24 n) 24 n)
 
 -- finite(config.partial_rolloff_db, 6.0).clamp(0.0, 24.0)
 abbrev pub rolloffOf : Float → Float
 rolloffOf x = heldTo x (f32 0x40c00000) zero32 (f32 0x41c00000)
 
 -- finite(config.rate_hz, 1.0).clamp(0.01, 32.0)
-abbrev pub rateOf : Float → Float
-rateOf x = heldTo x one (f32 0x3c23d70a) (f32 0x42000000)
+abbrev pub rateHeld : Float → Float
+rateHeld x = heldTo x one (f32 0x3c23d70a) (f32 0x42000000)
 
 -- finite(config.size_octaves, 1.0).clamp(0.125, 8.0)
-abbrev pub sizeOf : Float → Float
-sizeOf x = heldTo x one (f32 0x3e000000) (f32 0x41000000)
+abbrev pub sizeHeld : Float → Float
+sizeHeld x = heldTo x one (f32 0x3e000000) (f32 0x41000000)
 
 -- finite(config.phase, 0.0).rem_euclid(1.0)
 unfoldable pub phaseOf : Float → Float
@@ -52,13 +52,13 @@ mendedOf c =
       enabled = c .enabled;
       shape = c .shape;
       direction = c .direction;
-      «rate_hz» = rateOf (c .«rate_hz»);
-      «size_octaves» = sizeOf (c .«size_octaves»);
+      «rate_hz» = rateHeld (c .«rate_hz»);
+      «size_octaves» = sizeHeld (c .«size_octaves»);
       phase = phaseOf (c .phase);
       scheduled = c .scheduled;
       sync = c .sync;
       «hop_samples» = c .«hop_samples»;
-      partials = partialsOf (c .partials);
+      partials = partialsHeld (c .partials);
       «partial_rolloff_db» = rolloffOf (c .«partial_rolloff_db»);
       «attack_ms» = attackOf (c .«attack_ms»);
       «release_ms» = releaseMsOf (c .«release_ms»);

@@ -1,6 +1,6 @@
 // The envelope of one new particle, from the settings at its birth.
 ghost use mathlib.Core.Path.{_≡_};
-ghost use Rattle.settings.specs.Envelope.{hopFloorOf, onsetOf, releaseOf, sprinkleOf, rawOf, cloudLifetimeOf, cloudAttackOf, cloudOf, contourOf};
+ghost use Rattle.settings.specs.Envelope.{hopFloorOf, onsetOf, releaseOf, sprinkleContour, rawOf, cloudLifetimeOf, cloudAttackOf, cloudContour, contourOf};
 use crate::Config;
 use crate::Direction;
 use crate::Shape;
@@ -46,7 +46,7 @@ fn release(release_ms: f32, hop_floor: f32, onset: f32) -> f32
 
 // The milliseconds own the contour: neither Rate nor Size rescales a stage.
 fn sprinkle(attack_ms: f32, release_ms: f32, hop_floor: f32) -> Contour
-    ensures { λ r. ⌜ r ≡ sprinkleOf «attack_ms» «release_ms» «hop_floor» ⌝ }
+    ensures { λ r. ⌜ r ≡ sprinkleContour «attack_ms» «release_ms» «hop_floor» ⌝ }
 {
     let onset = onset(attack_ms);
     let release = release(release_ms, hop_floor, onset);
@@ -91,7 +91,7 @@ fn cloud_attack(direction: Direction, index: u64) -> f32
 }
 
 fn cloud(config: Config, index: u64, hop_floor: f32) -> Contour
-    ensures { λ r. ⌜ r ≡ cloudOf config index «hop_floor» ⌝ }
+    ensures { λ r. ⌜ r ≡ cloudContour config index «hop_floor» ⌝ }
 {
     let direction = config.direction;
     Contour {

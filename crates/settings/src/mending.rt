@@ -1,7 +1,7 @@
 // How `configure` mends the settings: every float may be anything, and each number is brought into
 // its range.
 ghost use mathlib.Core.Path.{_≡_};
-ghost use Rattle.settings.specs.Mending.{finiteOr, heldTo, phaseOf, partialsOf, mendedOf};
+ghost use Rattle.settings.specs.Mending.{finiteOr, heldTo, phaseOf, partialsHeld, mendedOf};
 use crate::Config;
 
 pub const MAX_PARTIALS: usize = 24;
@@ -27,7 +27,7 @@ fn phase(x: f32) -> f32
 }
 
 fn partials(n: usize) -> usize
-    ensures { λ r. ⌜ r ≡ partialsOf n ⌝ }
+    ensures { λ r. ⌜ r ≡ partialsHeld n ⌝ }
 {
     if n < 1 {
         return 1;

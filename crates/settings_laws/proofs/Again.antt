@@ -20,7 +20,7 @@ use Rattle.floats_laws.proofs.Choosing.{clamp-fits}
 use Rattle.floats_laws.proofs.Again.{clamp-again, clamp-finite, euclid-fits, euclid-again}
 use Rattle.settings.specs.declared.Config.{Config}
 use Rattle.settings_laws.specs.Phase.{withPhase}
-use Rattle.settings.specs.Mending.{finiteOr, heldTo, attackOf, releaseMsOf, partialsOf, rolloffOf, rateOf, sizeOf, phaseOf, mendedOf}
+use Rattle.settings.specs.Mending.{finiteOr, heldTo, attackOf, releaseMsOf, partialsHeld, rolloffOf, rateHeld, sizeHeld, phaseOf, mendedOf}
 
 -- ---- `finite`
 pub finite-again : (x d : Float) → finiteOr (finiteOr x d) d ≡ finiteOr x d
@@ -68,16 +68,16 @@ rolloff-again : (x : Float) → rolloffOf (rolloffOf x) ≡ rolloffOf x
 unfolding ofBits lt
 rolloff-again x = held-again x (f32 0x40c00000) zero32 (f32 0x41c00000) tt tt tt refl refl refl
 
-rate-again : (x : Float) → rateOf (rateOf x) ≡ rateOf x
+rate-again : (x : Float) → rateHeld (rateHeld x) ≡ rateHeld x
 unfolding ofBits lt
 rate-again x = held-again x one (f32 0x3c23d70a) (f32 0x42000000) tt tt tt refl refl refl
 
-size-again : (x : Float) → sizeOf (sizeOf x) ≡ sizeOf x
+size-again : (x : Float) → sizeHeld (sizeHeld x) ≡ sizeHeld x
 unfolding ofBits lt
 size-again x = held-again x one (f32 0x3e000000) (f32 0x41000000) tt tt tt refl refl refl
 
-partials-again : (n : ℕ) → partialsOf (partialsOf n) ≡ partialsOf n
-unfolding partialsOf pick
+partials-again : (n : ℕ) → partialsHeld (partialsHeld n) ≡ partialsHeld n
+unfolding partialsHeld pick
 partials-again n = by-case (ltb n 1) (λ p. rw p refl) (λ p. by-case (ltb 24 n) (λ q. rw (p, q) refl) (λ q. rw (p, q, p, q) refl))
 
 -- ---- the phase

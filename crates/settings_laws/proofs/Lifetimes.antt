@@ -26,8 +26,8 @@ use Rattle.settings.specs.declared.Shape.the-variants.{Sprinkle, Cloud}
 use Rattle.settings.specs.declared.Direction.{Direction}
 use Rattle.settings.specs.declared.Direction.the-variants.{Forward, Reverse, Alternate}
 use Rattle.settings.specs.Settings.{maxHop, lawfulRate}
-use Rattle.settings.specs.Mending.{finiteOr, heldTo, attackOf, releaseMsOf, rateOf, sizeOf, mendedOf}
-use Rattle.settings.specs.Envelope.{hopFloorOf, onsetOf, releaseOf, sprinkleOf, variationOf, rawOf, cloudLifetimeOf, cloudAttack, reverseAttack, cloudAttackOf, cloudOf, byShape, contourOf}
+use Rattle.settings.specs.Mending.{finiteOr, heldTo, attackOf, releaseMsOf, rateHeld, sizeHeld, mendedOf}
+use Rattle.settings.specs.Envelope.{hopFloorOf, onsetOf, releaseOf, sprinkleContour, variationOf, rawOf, cloudLifetimeOf, cloudAttack, reverseAttack, cloudAttackOf, cloudContour, contourBy, contourOf}
 use Rattle.settings_laws.proofs.Again.{finite-or, or-fits}
 use Rattle.settings_laws.proofs.Seconds.{floor-upto, onset-least, onset-upto, release-least, release-upto}
 use Rattle.settings_laws.proofs.Attack.{Part, stage-part}
@@ -60,8 +60,8 @@ release-mag : (x : Float) → Mag (releaseMsOf x) 5000
 unfolding ofBits
 release-mag x = held-mag x (f32 0x428c0000) (f32 0x459c4000) tt (lit≤ tt)
 
-sprinkle-sound : (attack release floor : Float) → Mag attack 5000 → Mag release 5000 → Upto floor 5 → Sound (sprinkleOf attack release floor)
-unfolding sprinkleOf
+sprinkle-sound : (attack release floor : Float) → Mag attack 5000 → Mag release 5000 → Upto floor 5 → Sound (sprinkleContour attack release floor)
+unfolding sprinkleContour
 sprinkle-sound attack release floor A R F =
     let onset = onsetOf attack in
     let rest = releaseOf release floor onset in
@@ -133,10 +133,10 @@ raw-mag size rate index S R =
     let m4 = div-mag binary32 x3 (sqrtOf rate) 14 16 (lit≤ tt) m3 R in
     mul-mag binary32 x4 (variationOf index) 224 4 (lit≤ tt) m4 (variation-mag index)
 
-mended-raw : (size rate : Float) (index : ℕ) → T (fits binary32 size) → T (fits binary32 rate) → Mag (rawOf (sizeOf size) (rateOf rate) index) 896
+mended-raw : (size rate : Float) (index : ℕ) → T (fits binary32 size) → T (fits binary32 rate) → Mag (rawOf (sizeHeld size) (rateHeld rate) index) 896
 unfolding ofBits fits le lt eq
 mended-raw size rate index p q =
-    raw-mag (sizeOf size) (rateOf rate) index (root-mag size (f32 0x3e000000) (f32 0x41000000) p tt tt tt tt tt) (root-least rate (f32 0x3c23d70a) (f32 0x42000000) q tt tt tt tt tt)
+    raw-mag (sizeHeld size) (rateHeld rate) index (root-mag size (f32 0x3e000000) (f32 0x41000000) p tt tt tt tt tt) (root-least rate (f32 0x3c23d70a) (f32 0x42000000) q tt tt tt tt tt)
 
 direction-part : (direction : Direction) (index : ℕ) → Part (cloudAttackOf direction index)
 unfolding cloudAttackOf ofBits lt
@@ -163,12 +163,12 @@ pub record FormedConfig (c : Config) : Type 0 where
   pub rate : T (fits binary32 (c .«rate_hz»))
   pub size : T (fits binary32 (c .«size_octaves»))
 
-by-shape : (shape : Shape) (c : Config) (index : ℕ) (floor : Float) → FormedConfig c → Upto floor 5 → Sound (byShape shape (mendedOf c) index floor)
-unfolding byShape mendedOf cloudOf
+by-shape : (shape : Shape) (c : Config) (index : ℕ) (floor : Float) → FormedConfig c → Upto floor 5 → Sound (contourBy shape (mendedOf c) index floor)
+unfolding contourBy mendedOf cloudContour
 by-shape Sprinkle c index floor w F = sprinkle-sound (attackOf (c .«attack_ms»)) (releaseMsOf (c .«release_ms»)) floor (attack-mag (c .«attack_ms»)) (release-mag (c .«release_ms»)) F
 by-shape Cloud c index floor w F =
-    let size = sizeOf (c .«size_octaves») in
-    let rate = rateOf (c .«rate_hz») in
+    let size = sizeHeld (c .«size_octaves») in
+    let rate = rateHeld (c .«rate_hz») in
     let h = cloud-life size rate index floor (mended-raw (c .«size_octaves») (c .«rate_hz») index (w .size) (w .rate)) F in
     sound (cloudLifetimeOf size rate index floor) (cloudAttackOf (c .direction) index) 500 (h .0) (h .1) (direction-part (c .direction) index)
 
@@ -179,4 +179,4 @@ envelope-sound c index rate w h r = by-shape (c .shape) c index (hopFloorOf (c .
 -- the Cloud's value is finite before its clamp, whatever the hop and the sample rate
 pub raw-finite : (c : Config) (index : ℕ) → FormedConfig c → T (finite (rawOf (mendedOf c .«size_octaves») (mendedOf c .«rate_hz») index))
 unfolding mendedOf
-raw-finite c index w = mag-finite (rawOf (sizeOf (c .«size_octaves»)) (rateOf (c .«rate_hz»)) index) 896 (mended-raw (c .«size_octaves») (c .«rate_hz») index (w .size) (w .rate))
+raw-finite c index w = mag-finite (rawOf (sizeHeld (c .«size_octaves»)) (rateHeld (c .«rate_hz»)) index) 896 (mended-raw (c .«size_octaves») (c .«rate_hz») index (w .size) (w .rate))

@@ -1,6 +1,6 @@
 // The tally of births: one more that was dropped, or one more that was born and the hash of decisions.
 ghost use mathlib.Core.Path.{_≡_};
-ghost use Rattle.state.specs.Tallies.{droppedOne, wordOf, hashOf, bornOne};
+ghost use Rattle.state.specs.Tallies.{droppedOne, particleWord, hashOf, bornOne};
 use crate::Tally;
 use pool::Particle;
 
@@ -14,7 +14,7 @@ pub fn drop_one(tally: Tally) -> Tally
 }
 
 fn word(a: u8, b: u8, c: u8) -> u64
-    ensures { λ r. ⌜ r ≡ wordOf a b c ⌝ }
+    ensures { λ r. ⌜ r ≡ particleWord a b c ⌝ }
 {
     a as u64 + b as u64 * 256 + c as u64 * 65536
 }

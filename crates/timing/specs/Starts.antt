@@ -18,12 +18,12 @@ abbrev pub halfCycle : Float
 halfCycle = f64 0x3fe0000000000000
 
 -- if count_draw < 0.25 { 0 } else if count_draw < 0.75 { 1 } else { 2 }
-unfoldable pub countOf : Float → ℕ
-countOf draw = pick (lt draw (f32 0x3e800000)) 0 (pick (lt draw (f32 0x3f400000)) 1 2)
+unfoldable pub startsDrawn : Float → ℕ
+startsDrawn draw = pick (lt draw (f32 0x3e800000)) 0 (pick (lt draw (f32 0x3f400000)) 1 2)
 
 -- self.index % 2 < count, with count_draw = random(key, 5)
 unfoldable pub emitOf : ℕ → ℕ → Bool
-emitOf index key = ltb (index % 2) (countOf (randomOf key 5))
+emitOf index key = ltb (index % 2) (startsDrawn (randomOf key 5))
 
 -- 0.25 + (random(key, 0) * 9.0).floor() as f64 * 0.25
 unfoldable pub startOf : ℕ → Float

@@ -1,13 +1,13 @@
 // When the starts of Sprinkle's groups fall, and which of them sound. A group has two, in three cycles
 // of the Rate clock, and its key draws for both.
 ghost use mathlib.Core.Path.{_≡_};
-ghost use Rattle.timing.specs.Starts.{countOf, startOf, gapOf, humanOf, nextOf, emitOf};
+ghost use Rattle.timing.specs.Starts.{startsDrawn, startOf, gapOf, humanOf, nextOf, emitOf};
 
 pub const SPRINKLE_GROUP_CYCLES: f64 = 3.0;
 
 // How many of a group's two starts sound.
 fn count(draw: f32) -> u64
-    ensures { λ r. ⌜ r ≡ countOf draw ⌝ }
+    ensures { λ r. ⌜ r ≡ startsDrawn draw ⌝ }
 {
     if draw < 0.25 {
         return 0;

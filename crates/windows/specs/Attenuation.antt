@@ -20,11 +20,11 @@ unfoldable pub openedBy : List Window → Float → Float
 openedBy ws log = walk (opening log) 0 ws zero32
 
 -- frequency_hz.max(f32::MIN_POSITIVE).log2()
-unfoldable pub placeOf : Float → Float
-placeOf hz = log2Of (max hz (f32 0x00800000))
+unfoldable pub logPlace : Float → Float
+logPlace hz = log2Of (max hz (f32 0x00800000))
 
 -- if depth_db <= 0.0 { return 0.0; } .. depth_db.clamp(0.0, 60.0) * self.activity * (1.0 - openness)
 unfoldable pub attenuationOf : Frame → Float → Float → Float
 attenuationOf f hz depth =
     pick (le depth zero32) zero32
-    (mul32 (mul32 (clamp depth zero32 (f32 0x42700000)) (f .activity)) (sub32 one (openedBy (f .windows) (placeOf hz))))
+    (mul32 (mul32 (clamp depth zero32 (f32 0x42700000)) (f .activity)) (sub32 one (openedBy (f .windows) (logPlace hz))))

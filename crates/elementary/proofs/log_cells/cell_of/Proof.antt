@@ -3,7 +3,7 @@ use mathlib.Core.Path.{_≡_, refl}
 use Prim.Native.Nat.{ℕ, _≤_, _<_}
 use native.Mathlib.Omega.{arith}
 use Rattle.floats_laws.proofs.Tables.{past}
-use Rattle.elementary.specs.LogCells.{tops, slopes, bends, topOf, slopeOf, bendOf}
+use Rattle.elementary.specs.LogCells.{logTops, logSlopes, logBends, logTop, logSlope, logBend}
 use Rattle.elementary.proofs.log_cells.cell_of.Statement.{statement}
 use Rattle.elementary.proofs.log_cells.cell_of.Tie as tie
 
@@ -11,7 +11,7 @@ last : (i : ℕ) → 63 ≤ i → i < 64 → i ≡ 63
 last i h k = omega arith
 
 pub cell-of-spec : {M : Type 1} → statement M
-unfolding topOf slopeOf bendOf tops slopes bends
+unfolding logTop logSlope logBend logTops logSlopes logBends
 cell-of-spec =
     tie.close
     (tie.spec

@@ -2,7 +2,7 @@ use mathlib.Core.Path.{_≡_}
 use Prim.Native.Nat.{ℕ, _+_, _-_, _*_, _/_, _%_, _≤_, _<_}
 use native.Mathlib.Nat.{le-trans}
 use native.Mathlib.Omega.{arith}
-use Rattle.elementary.specs.LogCells.{topOf, slopeOf, bendOf}
+use Rattle.elementary.specs.LogCells.{logTop, logSlope, logBend}
 use Rattle.elementary.specs.Log2.{fallOf, cellOf, fractionOf}
 use Rattle.elementary.proofs.LogCells.{top-le, fall-le, inner-le, bend-le, cell, back, fraction-lt}
 use borrow.Author.Needs.{needs}
@@ -17,7 +17,7 @@ record Steps (p e s b : ℕ) : Type 0 where
   most : e ≤ 4611686018427387903
   right : (e - (131071 - p % 131072) * (s + b * (131071 - p % 131072))) / 274877906944 ≡ fractionOf p
 
-steps : (p e s b : ℕ) → p < 8388608 → e ≡ topOf (p / 131072) → s ≡ slopeOf (p / 131072) → b ≡ bendOf (p / 131072) → Steps p e s b
+steps : (p e s b : ℕ) → p < 8388608 → e ≡ logTop (p / 131072) → s ≡ logSlope (p / 131072) → b ≡ logBend (p / 131072) → Steps p e s b
 unfolding fractionOf cellOf fallOf
 steps p e s b h q r t =
     let i = cell p h in

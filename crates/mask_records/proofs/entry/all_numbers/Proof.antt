@@ -3,7 +3,7 @@ use native.Mathlib.Numerals.{add-one}
 use lib.ListN.{length, getD}
 use lib.Ieee.{nan}
 use Rattle.sequences.specs.All.{all}
-use Rattle.mask_records.specs.Entries.{attenuationOf, isNumber}
+use Rattle.mask_records.specs.Entries.{entryAttenuation, isNumber}
 use native.Mathlib.Omega.{arith}
 use Prim.Native.Nat.{ℕ, _≤_, _-_}
 use mathlib.Core.Path.{_≡_, refl, ap, _∙_}
@@ -12,7 +12,7 @@ use Rattle.mask_records.proofs.entry.all_numbers.Statement.{statement}
 use Rattle.mask_records.proofs.entry.all_numbers.Tie as tie
 
 abbrev Inv-loop : tie.InvT-loop
-Inv-loop level opened ok₀ i₀ i-end ok i = (ok ≡ all (λ (j : ℕ). isNumber (attenuationOf level (getD opened j nan))) i) × (i ≤ length opened)
+Inv-loop level opened ok₀ i₀ i-end ok i = (ok ≡ all (λ (j : ℕ). isNumber (entryAttenuation level (getD opened j nan))) i) × (i ≤ length opened)
 
 abbrev μ-loop : tie.MeasureT-loop
 μ-loop level opened ok₀ i₀ i-end ok i = length opened - i
@@ -47,7 +47,7 @@ loop-again c = (rw add-one (cc), omega arith)
 returns : tie.Need-returns Inv-loop μ-loop
 returns c = let l = c .before .loop in
     let e : l .i ≡ length (c .before .before .before .args .opened .now) = omega arith in
-    l .inv .0 ∙ ap (all (λ (j : ℕ). isNumber (attenuationOf (c .before .before .before .args .level) (getD (c .before .before .before .args .opened .now) j nan)))) e
+    l .inv .0 ∙ ap (all (λ (j : ℕ). isNumber (entryAttenuation (c .before .before .before .args .level) (getD (c .before .before .before .args .opened .now) j nan)))) e
 
 pub all-numbers-spec : {M : Type 1} → statement M
 all-numbers-spec =

@@ -2,14 +2,14 @@
 use lib.ListN.{length, getD}
 use lib.Ieee.{nan}
 use Rattle.sequences.specs.Table.{Filled, filled-none, filled-more, filled-all}
-use Rattle.mask_records.specs.Entries.{attenuationOf, entryFor}
+use Rattle.mask_records.specs.Entries.{entryAttenuation, entryFor}
 use Prim.Native.Nat.{ℕ, _-_}
 use borrow.Author.Needs.{needs}
 use Rattle.mask_records.proofs.entry.fill.Statement.{statement}
 use Rattle.mask_records.proofs.entry.fill.Tie as tie
 
 abbrev Inv-loop : tie.InvT-loop
-Inv-loop gains level opened out₀ i₀ i-end out i = Filled (λ (j : ℕ). entryFor (attenuationOf level (getD opened j nan))) (length opened) i out
+Inv-loop gains level opened out₀ i₀ i-end out i = Filled (λ (j : ℕ). entryFor (entryAttenuation level (getD opened j nan))) (length opened) i out
 
 abbrev μ-loop : tie.MeasureT-loop
 μ-loop gains level opened out₀ i₀ i-end out i = length out₀ - i

@@ -2,12 +2,12 @@
 use borrow.Author.Needs.{needs}
 use Prim.Native.Nat.{_-_}
 use Rattle.sequences.specs.Table.{Filled, filled-none, filled-more, filled-all}
-use Rattle.oracle_probe.specs.Frames.{windowAt, frameOf}
+use Rattle.oracle_probe.specs.Frames.{flatWindow, flatFrame}
 use Rattle.oracle_probe.proofs.frames.frame_of.Statement.{statement}
 use Rattle.oracle_probe.proofs.frames.frame_of.Tie as tie
 
 abbrev Inv-loop : tie.InvT-loop
-Inv-loop flat activity windows₀ j₀ windows j = Filled (windowAt flat) 192 j windows
+Inv-loop flat activity windows₀ j₀ windows j = Filled (flatWindow flat) 192 j windows
 
 abbrev μ-loop : tie.MeasureT-loop
 μ-loop flat activity windows₀ j₀ windows j = 192 - j
@@ -37,7 +37,7 @@ loop-again : tie.Need-loop-again Inv-loop μ-loop
 loop-again c = filled-more (c .before .before .loop .inv) _ (search needs) (c .window-at .ensures)
 
 returns : tie.Need-returns Inv-loop μ-loop
-unfolding frameOf
+unfolding flatFrame
 returns c = rw (filled-all (c .before .loop .inv) (search needs))
 
 pub frame-of-spec : {M : Type 1} → statement M

@@ -1,6 +1,6 @@
 -- `window_at` meets its contract: three floats.
 use borrow.Author.Needs.{needs}
-use Rattle.oracle_probe.specs.Frames.{windowAt}
+use Rattle.oracle_probe.specs.Frames.{flatWindow}
 use Rattle.oracle_probe.proofs.frames.window_at.Statement.{statement}
 use Rattle.oracle_probe.proofs.frames.window_at.Tie as tie
 
@@ -29,7 +29,7 @@ float-at-requires-3 : tie.Need-float-at-requires-3
 float-at-requires-3 c κs = search needs
 
 returns : tie.Need-returns
-unfolding windowAt
+unfolding flatWindow
 returns c = rw (c .float-at3 .ensures, c .before .float-at2 .ensures, c .before .before .float-at .ensures)
 
 pub window-at-spec : {M : Type 1} → statement M

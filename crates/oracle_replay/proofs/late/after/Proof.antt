@@ -2,7 +2,7 @@
 use borrow.Author.Needs.{needs}
 use borrow.Author.Tests.{eq-eqb, ne-eqb}
 use Rattle.sequences.specs.Pick.{pick}
-use Rattle.oracle_replay.specs.Late.{afterOf}
+use Rattle.oracle_replay.specs.Late.{runAfter}
 use Rattle.oracle_replay.proofs.late.after.Statement.{statement}
 use Rattle.oracle_replay.proofs.late.after.Tie as tie
 
@@ -10,11 +10,11 @@ counted-requires : tie.Need-counted-requires
 counted-requires c κs = search needs
 
 returns : tie.Need-returns
-unfolding afterOf pick
+unfolding runAfter pick
 returns c = rw (eq-eqb _ _ (c .before .if1 .taken)) (c .counted .ensures)
 
 returns-2 : tie.Need-returns-2
-unfolding afterOf pick
+unfolding runAfter pick
 returns-2 c = rw (ne-eqb _ _ (c .if1 .left))
 
 pub after-spec : {M : Type 1} → statement M

@@ -2,7 +2,7 @@
 use borrow.Author.Needs.{needs}
 use Prim.Native.Nat.{_-_}
 use Rattle.pitch.proofs.Turns.{Drawn, drawn-none, drawn-more, drawn-here, drawn-all}
-use Rattle.pitch.specs.Partials.{drawnOf}
+use Rattle.pitch.specs.Partials.{partialsDrawn}
 use Rattle.pitch.proofs.harmonics.drawn.Statement.{statement}
 use Rattle.pitch.proofs.harmonics.drawn.Tie as tie
 
@@ -43,11 +43,11 @@ loop-again : tie.Need-loop-again Inv-loop μ-loop
 loop-again c = drawn-more (c .before .before .before .before .before .before .loop .inv) _ _ _ _ (search needs) (c .before .before .before .before .sum .ensures) (c .before .before .before .if1 .left) (c .before .before .random .ensures) (c .before .harmonic .ensures) (c .without .ensures)
 
 returns : tie.Need-returns Inv-loop μ-loop
-unfolding drawnOf
+unfolding partialsDrawn
 returns c = drawn-all (c .before .loop .inv) (search needs)
 
 returns-2 : tie.Need-returns-2 Inv-loop μ-loop
-unfolding drawnOf
+unfolding partialsDrawn
 returns-2 c = drawn-here (c .before .before .before .loop .inv) _ (search needs) (c .before .sum .ensures) (c .if1 .taken)
 
 pub drawn-spec : {M : Type 1} → statement M

@@ -5,12 +5,12 @@ use borrow.Author.Needs.{needs}
 use mathlib.Core.Path.{ap, _∙_}
 use Prim.Native.Nat.{_-_}
 use Rattle.pitch.proofs.Walks.{Chosen, chosen-none, chosen-here, chosen-more, chosen-end}
-use Rattle.pitch.specs.Octave.{weightOf, lastOf, chosenOf}
+use Rattle.pitch.specs.Octave.{weightOf, lastOctave, octaveChosen}
 use Rattle.pitch.proofs.octaves.chosen.Statement.{statement}
 use Rattle.pitch.proofs.octaves.chosen.Tie as tie
 
 abbrev Inv-loop : tie.InvT-loop
-Inv-loop low span upward count target left₀ i₀ left i = Chosen (weightOf low span upward) (lastOf count) count target i left
+Inv-loop low span upward count target left₀ i₀ left i = Chosen (weightOf low span upward) (lastOctave count) count target i left
 
 abbrev μ-loop : tie.MeasureT-loop
 μ-loop low span upward count target left₀ i₀ left i = count - i
@@ -34,11 +34,11 @@ loop-again : tie.Need-loop-again Inv-loop μ-loop
 loop-again c = chosen-more (c .before .before .before .loop .inv) _ (search needs) (ap (λ (w : Float). sub32 (c .before .before .before .loop .left) w) (c .before .weight .ensures)) (c .if2 .left)
 
 returns : tie.Need-returns Inv-loop μ-loop
-unfolding chosenOf
+unfolding octaveChosen
 returns c = c .last .ensures ∙ chosen-end (c .before .before .loop .inv) (search needs)
 
 returns-2 : tie.Need-returns-2 Inv-loop μ-loop
-unfolding chosenOf
+unfolding octaveChosen
 returns-2 c = chosen-here (c .before .before .before .loop .inv) _ (search needs) (ap (λ (w : Float). sub32 (c .before .before .before .loop .left) w) (c .before .weight .ensures)) (c .if2 .taken)
 
 pub chosen-spec : {M : Type 1} → statement M

@@ -1,5 +1,5 @@
 -- `drawn` meets its contract: the callees' answers, put together.
-use Rattle.pitch.specs.Octave.{drawnOf}
+use Rattle.pitch.specs.Octave.{octaveDrawn}
 use borrow.Author.Needs.{needs}
 use Rattle.pitch.proofs.octaves.drawn.Statement.{statement}
 use Rattle.pitch.proofs.octaves.drawn.Tie as tie
@@ -17,7 +17,7 @@ chosen-requires : tie.Need-chosen-requires
 chosen-requires c κs = search needs
 
 returns : tie.Need-returns
-unfolding drawnOf
+unfolding octaveDrawn
 returns c = rw (c .chosen .ensures, c .before .total .ensures, c .before .before .random .ensures, c .before .before .before .span .ensures)
 
 pub drawn-spec : {M : Type 1} → statement M

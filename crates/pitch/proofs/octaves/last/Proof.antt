@@ -1,5 +1,5 @@
 -- `last` meets its contract.
-use Rattle.pitch.specs.Octave.{lastOf}
+use Rattle.pitch.specs.Octave.{lastOctave}
 use borrow.Author.Needs.{needs}
 use Rattle.pitch.proofs.octaves.last.Statement.{statement}
 use Rattle.pitch.proofs.octaves.last.Tie as tie
@@ -8,7 +8,7 @@ wrapping-add-u32-requires : tie.Need-wrapping-add-u32-requires
 wrapping-add-u32-requires c κs = search needs
 
 returns : tie.Need-returns
-unfolding lastOf
+unfolding lastOctave
 returns c = c .wrapping-add-u32 .ensures
 
 pub last-spec : {M : Type 1} → statement M

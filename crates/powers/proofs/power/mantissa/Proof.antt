@@ -2,13 +2,13 @@ use borrow.Author.Needs.{needs}
 use mathlib.Core.Path.{_≡_}
 use Prim.Native.Nat.{ℕ, _+_, _*_, _/_, _%_, _<_}
 use native.Mathlib.Omega.{arith}
-use Rattle.powers.specs.PowerCells.{startOf, slopeOf, bendOf}
+use Rattle.powers.specs.PowerCells.{powerStart, powerSlope, powerBend}
 use Rattle.powers.specs.Power.{mantissa}
 use Rattle.powers.proofs.PowerTable.{Joined, joined, mantissa-high}
 use Rattle.powers.proofs.power.mantissa.Statement.{statement}
 use Rattle.powers.proofs.power.mantissa.Tie as tie
 
-is : (f t s b q p : ℕ) → t ≡ startOf (f / 67108864) → s ≡ slopeOf (f / 67108864) → b ≡ bendOf (f / 67108864) → q ≡ b * (f % 67108864) / 67108864 → p ≡ f % 67108864 * (s + q) → t + p ≡ mantissa f
+is : (f t s b q p : ℕ) → t ≡ powerStart (f / 67108864) → s ≡ powerSlope (f / 67108864) → b ≡ powerBend (f / 67108864) → q ≡ b * (f % 67108864) / 67108864 → p ≡ f % 67108864 * (s + q) → t + p ≡ mantissa f
 unfolding mantissa
 is f t s b q p T S B Q P = rw (P, Q, T, S, B)
 

@@ -2,267 +2,267 @@ use mathlib.Core.Path.{_≡_, refl}
 use Prim.Native.Nat.{ℕ, _≤_, _<_}
 use native.Mathlib.Omega.{arith}
 use Rattle.floats_laws.proofs.Tables.{past}
-use Rattle.powers.specs.PowerCells.{starts, slopes, bends, startOf, slopeOf, bendOf}
+use Rattle.powers.specs.PowerCells.{powerStarts, powerSlopes, powerBends, powerStart, powerSlope, powerBend}
 use Rattle.powers.proofs.power_cells.cell_of.Statement.{statement}
 use Rattle.powers.proofs.power_cells.cell_of.Tie as tie
 
 returns : tie.Need-returns
-unfolding startOf slopeOf bendOf starts slopes bends
+unfolding powerStart powerSlope powerBend powerStarts powerSlopes powerBends
 returns c = rw (c .match .keys1) (refl, refl, refl)
 
 returns-2 : tie.Need-returns-2
-unfolding startOf slopeOf bendOf starts slopes bends
+unfolding powerStart powerSlope powerBend powerStarts powerSlopes powerBends
 returns-2 c = rw (c .match .keys2) (refl, refl, refl)
 
 returns-3 : tie.Need-returns-3
-unfolding startOf slopeOf bendOf starts slopes bends
+unfolding powerStart powerSlope powerBend powerStarts powerSlopes powerBends
 returns-3 c = rw (c .match .keys3) (refl, refl, refl)
 
 returns-4 : tie.Need-returns-4
-unfolding startOf slopeOf bendOf starts slopes bends
+unfolding powerStart powerSlope powerBend powerStarts powerSlopes powerBends
 returns-4 c = rw (c .match .keys4) (refl, refl, refl)
 
 returns-5 : tie.Need-returns-5
-unfolding startOf slopeOf bendOf starts slopes bends
+unfolding powerStart powerSlope powerBend powerStarts powerSlopes powerBends
 returns-5 c = rw (c .match .keys5) (refl, refl, refl)
 
 returns-6 : tie.Need-returns-6
-unfolding startOf slopeOf bendOf starts slopes bends
+unfolding powerStart powerSlope powerBend powerStarts powerSlopes powerBends
 returns-6 c = rw (c .match .keys6) (refl, refl, refl)
 
 returns-7 : tie.Need-returns-7
-unfolding startOf slopeOf bendOf starts slopes bends
+unfolding powerStart powerSlope powerBend powerStarts powerSlopes powerBends
 returns-7 c = rw (c .match .keys7) (refl, refl, refl)
 
 returns-8 : tie.Need-returns-8
-unfolding startOf slopeOf bendOf starts slopes bends
+unfolding powerStart powerSlope powerBend powerStarts powerSlopes powerBends
 returns-8 c = rw (c .match .keys8) (refl, refl, refl)
 
 returns-9 : tie.Need-returns-9
-unfolding startOf slopeOf bendOf starts slopes bends
+unfolding powerStart powerSlope powerBend powerStarts powerSlopes powerBends
 returns-9 c = rw (c .match .keys9) (refl, refl, refl)
 
 returns-10 : tie.Need-returns-10
-unfolding startOf slopeOf bendOf starts slopes bends
+unfolding powerStart powerSlope powerBend powerStarts powerSlopes powerBends
 returns-10 c = rw (c .match .keys10) (refl, refl, refl)
 
 returns-11 : tie.Need-returns-11
-unfolding startOf slopeOf bendOf starts slopes bends
+unfolding powerStart powerSlope powerBend powerStarts powerSlopes powerBends
 returns-11 c = rw (c .match .keys11) (refl, refl, refl)
 
 returns-12 : tie.Need-returns-12
-unfolding startOf slopeOf bendOf starts slopes bends
+unfolding powerStart powerSlope powerBend powerStarts powerSlopes powerBends
 returns-12 c = rw (c .match .keys12) (refl, refl, refl)
 
 returns-13 : tie.Need-returns-13
-unfolding startOf slopeOf bendOf starts slopes bends
+unfolding powerStart powerSlope powerBend powerStarts powerSlopes powerBends
 returns-13 c = rw (c .match .keys13) (refl, refl, refl)
 
 returns-14 : tie.Need-returns-14
-unfolding startOf slopeOf bendOf starts slopes bends
+unfolding powerStart powerSlope powerBend powerStarts powerSlopes powerBends
 returns-14 c = rw (c .match .keys14) (refl, refl, refl)
 
 returns-15 : tie.Need-returns-15
-unfolding startOf slopeOf bendOf starts slopes bends
+unfolding powerStart powerSlope powerBend powerStarts powerSlopes powerBends
 returns-15 c = rw (c .match .keys15) (refl, refl, refl)
 
 returns-16 : tie.Need-returns-16
-unfolding startOf slopeOf bendOf starts slopes bends
+unfolding powerStart powerSlope powerBend powerStarts powerSlopes powerBends
 returns-16 c = rw (c .match .keys16) (refl, refl, refl)
 
 returns-17 : tie.Need-returns-17
-unfolding startOf slopeOf bendOf starts slopes bends
+unfolding powerStart powerSlope powerBend powerStarts powerSlopes powerBends
 returns-17 c = rw (c .match .keys17) (refl, refl, refl)
 
 returns-18 : tie.Need-returns-18
-unfolding startOf slopeOf bendOf starts slopes bends
+unfolding powerStart powerSlope powerBend powerStarts powerSlopes powerBends
 returns-18 c = rw (c .match .keys18) (refl, refl, refl)
 
 returns-19 : tie.Need-returns-19
-unfolding startOf slopeOf bendOf starts slopes bends
+unfolding powerStart powerSlope powerBend powerStarts powerSlopes powerBends
 returns-19 c = rw (c .match .keys19) (refl, refl, refl)
 
 returns-20 : tie.Need-returns-20
-unfolding startOf slopeOf bendOf starts slopes bends
+unfolding powerStart powerSlope powerBend powerStarts powerSlopes powerBends
 returns-20 c = rw (c .match .keys20) (refl, refl, refl)
 
 returns-21 : tie.Need-returns-21
-unfolding startOf slopeOf bendOf starts slopes bends
+unfolding powerStart powerSlope powerBend powerStarts powerSlopes powerBends
 returns-21 c = rw (c .match .keys21) (refl, refl, refl)
 
 returns-22 : tie.Need-returns-22
-unfolding startOf slopeOf bendOf starts slopes bends
+unfolding powerStart powerSlope powerBend powerStarts powerSlopes powerBends
 returns-22 c = rw (c .match .keys22) (refl, refl, refl)
 
 returns-23 : tie.Need-returns-23
-unfolding startOf slopeOf bendOf starts slopes bends
+unfolding powerStart powerSlope powerBend powerStarts powerSlopes powerBends
 returns-23 c = rw (c .match .keys23) (refl, refl, refl)
 
 returns-24 : tie.Need-returns-24
-unfolding startOf slopeOf bendOf starts slopes bends
+unfolding powerStart powerSlope powerBend powerStarts powerSlopes powerBends
 returns-24 c = rw (c .match .keys24) (refl, refl, refl)
 
 returns-25 : tie.Need-returns-25
-unfolding startOf slopeOf bendOf starts slopes bends
+unfolding powerStart powerSlope powerBend powerStarts powerSlopes powerBends
 returns-25 c = rw (c .match .keys25) (refl, refl, refl)
 
 returns-26 : tie.Need-returns-26
-unfolding startOf slopeOf bendOf starts slopes bends
+unfolding powerStart powerSlope powerBend powerStarts powerSlopes powerBends
 returns-26 c = rw (c .match .keys26) (refl, refl, refl)
 
 returns-27 : tie.Need-returns-27
-unfolding startOf slopeOf bendOf starts slopes bends
+unfolding powerStart powerSlope powerBend powerStarts powerSlopes powerBends
 returns-27 c = rw (c .match .keys27) (refl, refl, refl)
 
 returns-28 : tie.Need-returns-28
-unfolding startOf slopeOf bendOf starts slopes bends
+unfolding powerStart powerSlope powerBend powerStarts powerSlopes powerBends
 returns-28 c = rw (c .match .keys28) (refl, refl, refl)
 
 returns-29 : tie.Need-returns-29
-unfolding startOf slopeOf bendOf starts slopes bends
+unfolding powerStart powerSlope powerBend powerStarts powerSlopes powerBends
 returns-29 c = rw (c .match .keys29) (refl, refl, refl)
 
 returns-30 : tie.Need-returns-30
-unfolding startOf slopeOf bendOf starts slopes bends
+unfolding powerStart powerSlope powerBend powerStarts powerSlopes powerBends
 returns-30 c = rw (c .match .keys30) (refl, refl, refl)
 
 returns-31 : tie.Need-returns-31
-unfolding startOf slopeOf bendOf starts slopes bends
+unfolding powerStart powerSlope powerBend powerStarts powerSlopes powerBends
 returns-31 c = rw (c .match .keys31) (refl, refl, refl)
 
 returns-32 : tie.Need-returns-32
-unfolding startOf slopeOf bendOf starts slopes bends
+unfolding powerStart powerSlope powerBend powerStarts powerSlopes powerBends
 returns-32 c = rw (c .match .keys32) (refl, refl, refl)
 
 returns-33 : tie.Need-returns-33
-unfolding startOf slopeOf bendOf starts slopes bends
+unfolding powerStart powerSlope powerBend powerStarts powerSlopes powerBends
 returns-33 c = rw (c .match .keys33) (refl, refl, refl)
 
 returns-34 : tie.Need-returns-34
-unfolding startOf slopeOf bendOf starts slopes bends
+unfolding powerStart powerSlope powerBend powerStarts powerSlopes powerBends
 returns-34 c = rw (c .match .keys34) (refl, refl, refl)
 
 returns-35 : tie.Need-returns-35
-unfolding startOf slopeOf bendOf starts slopes bends
+unfolding powerStart powerSlope powerBend powerStarts powerSlopes powerBends
 returns-35 c = rw (c .match .keys35) (refl, refl, refl)
 
 returns-36 : tie.Need-returns-36
-unfolding startOf slopeOf bendOf starts slopes bends
+unfolding powerStart powerSlope powerBend powerStarts powerSlopes powerBends
 returns-36 c = rw (c .match .keys36) (refl, refl, refl)
 
 returns-37 : tie.Need-returns-37
-unfolding startOf slopeOf bendOf starts slopes bends
+unfolding powerStart powerSlope powerBend powerStarts powerSlopes powerBends
 returns-37 c = rw (c .match .keys37) (refl, refl, refl)
 
 returns-38 : tie.Need-returns-38
-unfolding startOf slopeOf bendOf starts slopes bends
+unfolding powerStart powerSlope powerBend powerStarts powerSlopes powerBends
 returns-38 c = rw (c .match .keys38) (refl, refl, refl)
 
 returns-39 : tie.Need-returns-39
-unfolding startOf slopeOf bendOf starts slopes bends
+unfolding powerStart powerSlope powerBend powerStarts powerSlopes powerBends
 returns-39 c = rw (c .match .keys39) (refl, refl, refl)
 
 returns-40 : tie.Need-returns-40
-unfolding startOf slopeOf bendOf starts slopes bends
+unfolding powerStart powerSlope powerBend powerStarts powerSlopes powerBends
 returns-40 c = rw (c .match .keys40) (refl, refl, refl)
 
 returns-41 : tie.Need-returns-41
-unfolding startOf slopeOf bendOf starts slopes bends
+unfolding powerStart powerSlope powerBend powerStarts powerSlopes powerBends
 returns-41 c = rw (c .match .keys41) (refl, refl, refl)
 
 returns-42 : tie.Need-returns-42
-unfolding startOf slopeOf bendOf starts slopes bends
+unfolding powerStart powerSlope powerBend powerStarts powerSlopes powerBends
 returns-42 c = rw (c .match .keys42) (refl, refl, refl)
 
 returns-43 : tie.Need-returns-43
-unfolding startOf slopeOf bendOf starts slopes bends
+unfolding powerStart powerSlope powerBend powerStarts powerSlopes powerBends
 returns-43 c = rw (c .match .keys43) (refl, refl, refl)
 
 returns-44 : tie.Need-returns-44
-unfolding startOf slopeOf bendOf starts slopes bends
+unfolding powerStart powerSlope powerBend powerStarts powerSlopes powerBends
 returns-44 c = rw (c .match .keys44) (refl, refl, refl)
 
 returns-45 : tie.Need-returns-45
-unfolding startOf slopeOf bendOf starts slopes bends
+unfolding powerStart powerSlope powerBend powerStarts powerSlopes powerBends
 returns-45 c = rw (c .match .keys45) (refl, refl, refl)
 
 returns-46 : tie.Need-returns-46
-unfolding startOf slopeOf bendOf starts slopes bends
+unfolding powerStart powerSlope powerBend powerStarts powerSlopes powerBends
 returns-46 c = rw (c .match .keys46) (refl, refl, refl)
 
 returns-47 : tie.Need-returns-47
-unfolding startOf slopeOf bendOf starts slopes bends
+unfolding powerStart powerSlope powerBend powerStarts powerSlopes powerBends
 returns-47 c = rw (c .match .keys47) (refl, refl, refl)
 
 returns-48 : tie.Need-returns-48
-unfolding startOf slopeOf bendOf starts slopes bends
+unfolding powerStart powerSlope powerBend powerStarts powerSlopes powerBends
 returns-48 c = rw (c .match .keys48) (refl, refl, refl)
 
 returns-49 : tie.Need-returns-49
-unfolding startOf slopeOf bendOf starts slopes bends
+unfolding powerStart powerSlope powerBend powerStarts powerSlopes powerBends
 returns-49 c = rw (c .match .keys49) (refl, refl, refl)
 
 returns-50 : tie.Need-returns-50
-unfolding startOf slopeOf bendOf starts slopes bends
+unfolding powerStart powerSlope powerBend powerStarts powerSlopes powerBends
 returns-50 c = rw (c .match .keys50) (refl, refl, refl)
 
 returns-51 : tie.Need-returns-51
-unfolding startOf slopeOf bendOf starts slopes bends
+unfolding powerStart powerSlope powerBend powerStarts powerSlopes powerBends
 returns-51 c = rw (c .match .keys51) (refl, refl, refl)
 
 returns-52 : tie.Need-returns-52
-unfolding startOf slopeOf bendOf starts slopes bends
+unfolding powerStart powerSlope powerBend powerStarts powerSlopes powerBends
 returns-52 c = rw (c .match .keys52) (refl, refl, refl)
 
 returns-53 : tie.Need-returns-53
-unfolding startOf slopeOf bendOf starts slopes bends
+unfolding powerStart powerSlope powerBend powerStarts powerSlopes powerBends
 returns-53 c = rw (c .match .keys53) (refl, refl, refl)
 
 returns-54 : tie.Need-returns-54
-unfolding startOf slopeOf bendOf starts slopes bends
+unfolding powerStart powerSlope powerBend powerStarts powerSlopes powerBends
 returns-54 c = rw (c .match .keys54) (refl, refl, refl)
 
 returns-55 : tie.Need-returns-55
-unfolding startOf slopeOf bendOf starts slopes bends
+unfolding powerStart powerSlope powerBend powerStarts powerSlopes powerBends
 returns-55 c = rw (c .match .keys55) (refl, refl, refl)
 
 returns-56 : tie.Need-returns-56
-unfolding startOf slopeOf bendOf starts slopes bends
+unfolding powerStart powerSlope powerBend powerStarts powerSlopes powerBends
 returns-56 c = rw (c .match .keys56) (refl, refl, refl)
 
 returns-57 : tie.Need-returns-57
-unfolding startOf slopeOf bendOf starts slopes bends
+unfolding powerStart powerSlope powerBend powerStarts powerSlopes powerBends
 returns-57 c = rw (c .match .keys57) (refl, refl, refl)
 
 returns-58 : tie.Need-returns-58
-unfolding startOf slopeOf bendOf starts slopes bends
+unfolding powerStart powerSlope powerBend powerStarts powerSlopes powerBends
 returns-58 c = rw (c .match .keys58) (refl, refl, refl)
 
 returns-59 : tie.Need-returns-59
-unfolding startOf slopeOf bendOf starts slopes bends
+unfolding powerStart powerSlope powerBend powerStarts powerSlopes powerBends
 returns-59 c = rw (c .match .keys59) (refl, refl, refl)
 
 returns-60 : tie.Need-returns-60
-unfolding startOf slopeOf bendOf starts slopes bends
+unfolding powerStart powerSlope powerBend powerStarts powerSlopes powerBends
 returns-60 c = rw (c .match .keys60) (refl, refl, refl)
 
 returns-61 : tie.Need-returns-61
-unfolding startOf slopeOf bendOf starts slopes bends
+unfolding powerStart powerSlope powerBend powerStarts powerSlopes powerBends
 returns-61 c = rw (c .match .keys61) (refl, refl, refl)
 
 returns-62 : tie.Need-returns-62
-unfolding startOf slopeOf bendOf starts slopes bends
+unfolding powerStart powerSlope powerBend powerStarts powerSlopes powerBends
 returns-62 c = rw (c .match .keys62) (refl, refl, refl)
 
 returns-63 : tie.Need-returns-63
-unfolding startOf slopeOf bendOf starts slopes bends
+unfolding powerStart powerSlope powerBend powerStarts powerSlopes powerBends
 returns-63 c = rw (c .match .keys63) (refl, refl, refl)
 
 last : (i : ℕ) → 63 ≤ i → i < 64 → i ≡ 63
 last i h k = omega arith
 
 returns-64 : tie.Need-returns-64
-unfolding startOf slopeOf bendOf starts slopes bends
+unfolding powerStart powerSlope powerBend powerStarts powerSlopes powerBends
 returns-64 c = rw (last (c .before .args .i) (past 63 (c .before .args .i) (c .match .rest)) (c .before .pre)) (refl, refl, refl)
 
 pub cell-of-spec : {M : Type 1} → statement M

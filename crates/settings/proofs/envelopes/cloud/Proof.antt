@@ -1,5 +1,5 @@
 -- `cloud` meets its contract: the callees' answers, put together.
-use Rattle.settings.specs.Envelope.{cloudOf}
+use Rattle.settings.specs.Envelope.{cloudContour}
 use borrow.Author.Needs.{needs}
 use Rattle.settings.proofs.envelopes.cloud.Statement.{statement}
 use Rattle.settings.proofs.envelopes.cloud.Tie as tie
@@ -11,7 +11,7 @@ cloud-attack-requires : tie.Need-cloud-attack-requires
 cloud-attack-requires c κs = search needs
 
 returns : tie.Need-returns
-unfolding cloudOf
+unfolding cloudContour
 returns c = rw (c .cloud-attack .ensures, c .before .cloud-lifetime .ensures)
 
 pub cloud-spec : {M : Type 1} → statement M

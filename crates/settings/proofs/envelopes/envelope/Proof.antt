@@ -3,7 +3,7 @@ use mathlib.Core.Path.{sym, ap, _∙_}
 use lib.Ieee.{Float}
 use Rattle.settings.specs.declared.Shape.{Shape}
 use Rattle.settings.specs.declared.Shape.the-variants.{Sprinkle, Cloud}
-use Rattle.settings.specs.Envelope.{hopFloorOf, byShape, contourOf}
+use Rattle.settings.specs.Envelope.{hopFloorOf, contourBy, contourOf}
 use borrow.Author.Needs.{needs}
 use Rattle.settings.proofs.envelopes.envelope.Statement.{statement}
 use Rattle.settings.proofs.envelopes.envelope.Tie as tie
@@ -24,20 +24,20 @@ cloud-requires : tie.Need-cloud-requires
 cloud-requires c κs = search needs
 
 returns : tie.Need-returns
-unfolding contourOf byShape
+unfolding contourOf contourBy
 returns c =
     let args = c .before .before .before .before .args in
     c .sprinkle .ensures
-    ∙ ap (λ (floor : Float). byShape Sprinkle (args .config) (args .index) floor) (c .before .before .before .hop-floor .ensures)
-    ∙ sym (ap (λ (shape : Shape). byShape shape (args .config) (args .index) (hopFloorOf (args .config .«hop_samples») (args .sample-rate))) (c .before .enum-told .given .1))
+    ∙ ap (λ (floor : Float). contourBy Sprinkle (args .config) (args .index) floor) (c .before .before .before .hop-floor .ensures)
+    ∙ sym (ap (λ (shape : Shape). contourBy shape (args .config) (args .index) (hopFloorOf (args .config .«hop_samples») (args .sample-rate))) (c .before .enum-told .given .1))
 
 returns-2 : tie.Need-returns-2
-unfolding contourOf byShape
+unfolding contourOf contourBy
 returns-2 c =
     let args = c .before .before .before .before .args in
     c .cloud .ensures
-    ∙ ap (λ (floor : Float). byShape Cloud (args .config) (args .index) floor) (c .before .before .before .hop-floor .ensures)
-    ∙ sym (ap (λ (shape : Shape). byShape shape (args .config) (args .index) (hopFloorOf (args .config .«hop_samples») (args .sample-rate))) (c .before .enum-told2 .given .1))
+    ∙ ap (λ (floor : Float). contourBy Cloud (args .config) (args .index) floor) (c .before .before .before .hop-floor .ensures)
+    ∙ sym (ap (λ (shape : Shape). contourBy shape (args .config) (args .index) (hopFloorOf (args .config .«hop_samples») (args .sample-rate))) (c .before .enum-told2 .given .1))
 
 pub envelope-spec : {M : Type 1} → statement M
 envelope-spec =

@@ -1,5 +1,5 @@
 -- `sprinkle` meets its contract: the callees' answers, put together.
-use Rattle.settings.specs.Envelope.{sprinkleOf}
+use Rattle.settings.specs.Envelope.{sprinkleContour}
 use borrow.Author.Needs.{needs}
 use Rattle.settings.proofs.envelopes.sprinkle.Statement.{statement}
 use Rattle.settings.proofs.envelopes.sprinkle.Tie as tie
@@ -11,7 +11,7 @@ release-requires : tie.Need-release-requires
 release-requires c κs = search needs
 
 returns : tie.Need-returns
-unfolding sprinkleOf
+unfolding sprinkleContour
 returns c = rw (c .release .ensures, c .before .onset .ensures)
 
 pub sprinkle-spec : {M : Type 1} → statement M

@@ -1,6 +1,6 @@
 -- `word` meets its contract by computation.
 use mathlib.Core.Path.{refl}
-use Rattle.state.specs.Tallies.{wordOf}
+use Rattle.state.specs.Tallies.{particleWord}
 use borrow.Author.Needs.{needs}
 use Rattle.state.proofs.tallies.word.Statement.{statement}
 use Rattle.state.proofs.tallies.word.Tie as tie
@@ -18,7 +18,7 @@ add-result-2 : tie.Need-add-result-2
 add-result-2 c = search needs
 
 returns : tie.Need-returns
-unfolding wordOf
+unfolding particleWord
 returns c = refl
 
 pub word-spec : {M : Type 1} → statement M

@@ -1,6 +1,6 @@
 -- `attenuation_db` meets its contract: one test, then the callees' answers, put together.
 use Rattle.sequences.specs.Pick.{picked, skipped}
-use Rattle.windows.specs.Attenuation.{attenuationOf, placeOf}
+use Rattle.windows.specs.Attenuation.{attenuationOf, logPlace}
 use borrow.Author.Needs.{needs}
 use Rattle.windows.proofs.attenuation.attenuation_db.Statement.{statement}
 use Rattle.windows.proofs.attenuation.attenuation_db.Tie as tie
@@ -22,7 +22,7 @@ clamp32-requires : tie.Need-clamp32-requires
 clamp32-requires c κs = search needs
 
 returns-2 : tie.Need-returns-2
-unfolding attenuationOf placeOf
+unfolding attenuationOf logPlace
 returns-2 c =
     let b = c .before .before .before .before in
     skipped _ _ _ _ (b .before .before .if1 .left)
