@@ -3,7 +3,7 @@ use Prim.Native.Nat.{ℕ, _+_, _^_}
 use lib.Dec.{leb}
 use Rattle.sequences.specs.Pick.{pick}
 use Rattle.sequences.specs.Times.{iterate}
-use Rattle.engine.specs.Sample.{steppedOf}
+use Rattle.engine_samples.specs.Sample.{steppedOf}
 use Rattle.refusals.specs.declared.Refusal.the-variants.{Elapsed}
 use Rattle.state.specs.declared.Done.{Done}
 use Rattle.state.specs.declared.Engine.{Engine}

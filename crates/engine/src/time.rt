@@ -1,8 +1,6 @@
 // `advance`: up to the next start only the clock moves; a sample at which something is due is a whole one.
 ghost use mathlib.Core.Path.{_≡_};
 ghost use Rattle.engine.specs.Advance.{advancedOf};
-use crate::sample;
-use crate::waiting;
 use refusals::Answer;
 use refusals::Refusal;
 use settings::Shape;
@@ -30,9 +28,13 @@ pub fn advance(engine: Engine, samples: u64) -> Done
         let config = out.config;
         let streams = out.streams;
         let clock = out.clock;
-        let starts = waiting::next_starts(config, streams, out.next.opportunity);
-        let tempo = waiting::tempo_of(config, out.prepared.sample_rate, out.prepared.phase_alpha);
-        let waited = waiting::wait(clock, starts, tempo, samples - i);
+        let starts = engine_samples::next_starts(config, streams, out.next.opportunity);
+        let tempo = engine_samples::tempo_of(
+            config,
+            out.prepared.sample_rate,
+            out.prepared.phase_alpha,
+        );
+        let waited = engine_samples::wait(clock, starts, tempo, samples - i);
         let moved = waited.clock;
         out.clock = moved;
         i = i + waited.count;
@@ -48,15 +50,15 @@ pub fn advance(engine: Engine, samples: u64) -> Done
             let reference = moved.phase + moved.phase_offset;
             match shape {
                 Shape::Sprinkle => {
-                    out = sample::lanes(out, reference);
+                    out = engine_samples::lanes(out, reference);
                 }
                 Shape::Cloud => {
-                    out = sample::cloud(out, reference);
+                    out = engine_samples::cloud(out, reference);
                 }
             }
         }
         let now = out.clock;
-        let after = waiting::clock_after(now, tempo);
+        let after = engine_samples::clock_after(now, tempo);
         out.clock = after;
         i = i + 1;
     }

@@ -23,10 +23,11 @@ use Rattle.floats_laws.proofs.Powers.{add-power}
 use Rattle.floats_laws.proofs.Euclid.{euclid-within}
 use Rattle.floats_laws.proofs.Again.{euclid-fits}
 use Rattle.state.specs.declared.Clock.{Clock}
-use Rattle.engine.specs.Sample.{referenceNow, glidedOf}
-use Rattle.engine.specs.Changes.{soughtPhase}
+use Rattle.engine_samples.specs.Sample.{glidedOf}
+use Rattle.engine_changes.specs.Changes.{soughtPhase}
 use Rattle.floats_laws.proofs.Fractions.{Under, Above, held, under-finite, under-more, under-mag, mag-under, add-under, mul-under, div-under}
 use Rattle.floats_laws.proofs.Between.{under-between, under-most, under-least, sum-from-zero}
+use Rattle.state.specs.State.{referenceNow}
 
 abbrev pub phaseMost : ℕ → ℕ
 phaseMost k = 512000000000 + 3 * k

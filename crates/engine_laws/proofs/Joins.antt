@@ -14,9 +14,9 @@ use Rattle.refusals.specs.declared.Answer.the-variants.{Taken, Refused}
 use Rattle.state.specs.declared.Done.{Done}
 use Rattle.state.specs.declared.Engine.{Engine}
 use Rattle.state.specs.State.{taken}
-use Rattle.engine.specs.Sample.{steppedOf}
+use Rattle.engine_samples.specs.Sample.{steppedOf}
 use Rattle.engine.specs.Advance.{advancedOf}
-use Rattle.engine.proofs.Untouched.{stepped-sample}
+use Rattle.engine_samples.proofs.Untouched.{stepped-sample}
 
 pub grown-small : (n : ℕ) → n < 2 ^ 40 → grown n ≡ n + 1
 grown-small n h = omega arith

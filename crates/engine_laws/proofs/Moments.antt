@@ -24,14 +24,14 @@ use Rattle.settings.specs.Mending.{mendedOf}
 use Rattle.sources.specs.Sources.{isPitched}
 use Rattle.state.specs.declared.Engine.{Engine}
 use Rattle.state.specs.State.{withConfig, pastSource}
-use Rattle.engine.specs.Sample.{triedOf, laneOf, deliveredOf, tickedOf, steppedOf}
-use Rattle.engine.specs.Changes.{retiredAll, reweighed, switched, offset}
-use Rattle.engine.specs.Triggers.{isPermitted, reservedOf}
+use Rattle.engine_samples.specs.Sample.{triedOf, laneOf, deliveredOf, tickedOf, steppedOf}
+use Rattle.engine_changes.specs.Changes.{retiredAll, reweighed, switched, offset}
+use Rattle.engine_triggers.specs.Triggers.{isPermitted, reservedOf}
 use Rattle.frame.specs.Frame.{accepted}
 use Rattle.frame_laws.proofs.Background.{activity-unit}
 use Rattle.engine_laws.specs.Acts.{Act, birth, retire, retireBound, retune, frame, source, streams, next, clock, weights, settings, act, perform, triedActs, laneActs, shapeActs, deliverActs, sampleActs, advanceActs, restartActs, weighActs, switchActs, offsetActs, configureActs, checkedActs, triggerActs, Call, configure, noteInput, setSource, retireSource, releaseSource, trigger, reserve, reserved, seek, advance, takeFrame, Singles, Typed, actsOf, applied}
 use Rattle.sequences.specs.Every.{every-getD, in-case}
-use Rattle.engine.proofs.Untouched.{delivered-keeps}
+use Rattle.engine_samples.proofs.Untouched.{delivered-keeps}
 use Rattle.engine_laws.proofs.Joins.{steps-count, grown-small}
 use Rattle.engine_laws.proofs.Sound.{Sound, Settled, Sounding, past-formed}
 use Rattle.engine_laws.proofs.Kept.{held-retire-bound, held-retune-one}

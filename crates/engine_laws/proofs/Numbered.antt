@@ -26,7 +26,7 @@ use Rattle.state.specs.Make.{noParticles, newOn}
 use Rattle.state.specs.Tallies.{bornOne}
 use Rattle.births.specs.Birth.{newbornFor, admittedOf, attemptedOf, bornOf}
 use Rattle.engine.specs.New.{newEngineOf, resetOf}
-use Rattle.engine.specs.Changes.{retiredAll}
+use Rattle.engine_changes.specs.Changes.{retiredAll}
 use Rattle.frame.specs.Freed.{isFreed, sweepOne}
 use Rattle.frame.proofs.Swept.{held-or-freed}
 use Rattle.frame.specs.Call.{heldOf, freedOf, renewedOf}

@@ -16,8 +16,8 @@ use Rattle.floats_laws.proofs.Powers.{floor-mag}
 use Rattle.timing.specs.Streams.{larger, referenceOf}
 use Rattle.timing_laws.proofs.Due.{unsigned-most, due-opportunity}
 use Rattle.floats.specs.Word.{grown}
-use Rattle.engine.specs.Sample.{opportunityAfter}
-use Rattle.engine.specs.Changes.{soughtOpportunity}
+use Rattle.engine_samples.specs.Sample.{opportunityAfter}
+use Rattle.engine_changes.specs.Changes.{soughtOpportunity}
 use Rattle.engine_laws.proofs.Clocks.{Reach}
 
 abbrev pub opportunityMost : ℕ

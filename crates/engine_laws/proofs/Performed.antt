@@ -17,14 +17,14 @@ use Rattle.settings.specs.Settings.{checkedOf}
 use Rattle.settings.specs.Mending.{mendedOf}
 use Rattle.state.specs.declared.Done.{Done}
 use Rattle.state.specs.declared.Engine.{Engine}
-use Rattle.engine.specs.declared.triggers.Triggered.{Triggered}
+use Rattle.engine_triggers.specs.declared.Triggered.{Triggered}
 use Rattle.state.specs.State.{withConfig}
 use Rattle.births.specs.Birth.{bornOf}
-use Rattle.engine.specs.Sample.{triedOf, laneOf, lanesOf, cloudOf, byShape, deliveredOf, tickedOf, steppedOf}
+use Rattle.engine_samples.specs.Sample.{triedOf, laneOf, lanesOf, cloudOf, byShape, deliveredOf, tickedOf, steppedOf}
 use Rattle.engine.specs.Advance.{advancedOf}
-use Rattle.engine.specs.Changes.{retiredAll, aligned, reweighed, switched, offset, restarted, configuredTo, answeredBy, configuredOf, notesOf, soughtOf}
-use Rattle.engine.specs.Slots.{suppliedOf, setSourceOf, retireSourceOf, releaseSourceOf}
-use Rattle.engine.specs.Triggers.{reservedOf, isPermitted, outcomeOf, triggeredBy, triggeredOf}
+use Rattle.engine_changes.specs.Changes.{retiredAll, aligned, reweighed, switched, offset, restarted, configuredTo, answeredBy, configuredOf, notesOf, soughtOf}
+use Rattle.engine_sources.specs.Slots.{suppliedOf, setSourceOf, retireSourceOf, releaseSourceOf}
+use Rattle.engine_triggers.specs.Triggers.{reservedOf, isPermitted, outcomeOf, triggeredBy, triggeredOf}
 use Rattle.engine_laws.specs.Acts.{Act, act, perform, triedActs, laneActs, shapeActs, deliverActs, sampleActs, advanceActs, restartActs, weighActs, switchActs, offsetActs, configureActs, checkedActs, triggerActs, Call, actsOf, applied}
 use Rattle.engine_laws.specs.Acts as acts
 use Rattle.frame.specs.declared.Framed.{Framed}

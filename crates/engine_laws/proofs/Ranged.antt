@@ -31,11 +31,11 @@ use Rattle.state.specs.declared.Clock.{Clock}
 use Rattle.state.specs.declared.Engine.{Engine}
 use Rattle.state.specs.declared.Done.{Done}
 use Rattle.state.specs.declared.Prepared.{Prepared}
-use Rattle.state.specs.State.{pastStream}
+use Rattle.state.specs.State.{pastStream, referenceNow}
 use Rattle.state.specs.Make.{preparedOf, newOn}
 use Rattle.engine.specs.New.{newEngineOf, resetOf}
-use Rattle.engine.specs.Sample.{referenceNow, opportunityAfter, tickedOf}
-use Rattle.engine.specs.Changes.{offsetTo, preparedAt, preparedAll, soughtPhase, soughtClock, soughtNext}
+use Rattle.engine_samples.specs.Sample.{opportunityAfter, tickedOf}
+use Rattle.engine_changes.specs.Changes.{offsetTo, preparedAt, preparedAll, soughtPhase, soughtClock, soughtNext}
 use Rattle.engine_laws.proofs.Joins.{grown-small}
 use Rattle.engine_laws.proofs.Sound.{Made, Settled, Sound}
 

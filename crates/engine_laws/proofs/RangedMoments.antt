@@ -23,12 +23,12 @@ use Rattle.engine_laws.proofs.Opportunities.{opportunityMost}
 use Rattle.state.specs.declared.Engine.{Engine}
 use Rattle.state.specs.State.{withConfig, pastStream}
 use Rattle.births.specs.Birth.{bornOf, attemptedOf, admittedOf}
-use Rattle.engine.specs.Sample.{triedOf, laneOf, deliveredOf, steppedOf}
-use Rattle.engine.specs.Changes.{retiredAll, reweighed, switched, offset, soughtClock}
-use Rattle.engine.specs.Triggers.{reservedOf}
+use Rattle.engine_samples.specs.Sample.{triedOf, laneOf, deliveredOf, steppedOf}
+use Rattle.engine_changes.specs.Changes.{retiredAll, reweighed, switched, offset, soughtClock}
+use Rattle.engine_triggers.specs.Triggers.{reservedOf}
 use Rattle.frame.specs.Call.{renewedOf}
 use Rattle.engine_laws.specs.Acts.{Act, birth, retire, retireBound, retune, frame, source, streams, next, clock, weights, settings, act, perform, triedActs, laneActs, shapeActs, deliverActs, sampleActs, advanceActs, restartActs, weighActs, switchActs, offsetActs, configureActs, checkedActs, triggerActs, Call, configure, noteInput, setSource, retireSource, releaseSource, trigger, reserve, reserved, seek, advance, takeFrame, Typed, actsOf}
-use Rattle.engine.proofs.Untouched.{delivered-keeps}
+use Rattle.engine_samples.proofs.Untouched.{delivered-keeps}
 use Rattle.engine_laws.proofs.Joins.{steps-count}
 use Rattle.engine_laws.proofs.Sound.{Sound, Settled}
 use Rattle.engine_laws.proofs.Stays.{sound-config}

@@ -30,9 +30,9 @@ use Rattle.state.specs.declared.Prepared.{Prepared}
 use Rattle.state.specs.State.{withConfig, withParticles, withWeights, withClock, withStreams}
 use Rattle.state.specs.Make.{preparedOf, noParticles, noSources, newOn}
 use Rattle.engine.specs.New.{newEngineOf, resetOf}
-use Rattle.engine.specs.Changes.{retiredAll, preparedAll}
-use Rattle.engine.specs.Slots.{withSource}
-use Rattle.engine.specs.Triggers.{isPermitted}
+use Rattle.engine_changes.specs.Changes.{retiredAll, preparedAll}
+use Rattle.engine_sources.specs.Slots.{withSource}
+use Rattle.engine_triggers.specs.Triggers.{isPermitted}
 use Rattle.sequences.specs.Every.{every-map, every-set, every-replicate, in-case, every-imp}
 use Rattle.engine_laws.specs.Acts.{Singles}
 use Rattle.engine_laws.proofs.Sound.{FitPlace, Settled, Made, Sound, Sounding, fit-later}

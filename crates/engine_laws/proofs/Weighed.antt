@@ -24,18 +24,18 @@ use Rattle.state.specs.State.{withConfig}
 use Rattle.state.specs.Make.{weightsOf, preparedOf, newOn}
 use Rattle.engine.specs.New.{newEngineOf, resetOf}
 use Rattle.births.specs.Birth.{bornOf}
-use Rattle.engine.specs.Sample.{tickedOf, steppedOf}
+use Rattle.engine_samples.specs.Sample.{tickedOf, steppedOf}
 use Rattle.engine.specs.Advance.{advancedOf}
-use Rattle.engine.specs.Changes.{retiredAll, aligned, reweighed, switched, offset, restarted, configuredTo, answeredBy, configuredOf, notesOf, soughtOf}
-use Rattle.engine.specs.Slots.{suppliedOf, setSourceOf, retireSourceOf, releaseSourceOf}
-use Rattle.engine.specs.declared.triggers.Triggered.{Triggered}
-use Rattle.engine.specs.Triggers.{reservedOf, triggeredBy, triggeredOf}
+use Rattle.engine_changes.specs.Changes.{retiredAll, aligned, reweighed, switched, offset, restarted, configuredTo, answeredBy, configuredOf, notesOf, soughtOf}
+use Rattle.engine_sources.specs.Slots.{suppliedOf, setSourceOf, retireSourceOf, releaseSourceOf}
+use Rattle.engine_triggers.specs.declared.Triggered.{Triggered}
+use Rattle.engine_triggers.specs.Triggers.{reservedOf, triggeredBy, triggeredOf}
 use Rattle.frame.specs.declared.Framed.{Framed}
 use Rattle.frame.specs.Call.{renewedOf, takenOf, refusedOf, framedOf}
 use Rattle.frame_laws.proofs.Newborn.{engine-logs}
 use Rattle.frame_laws.proofs.Shapes.{Logs}
 use Rattle.engine_laws.specs.Acts.{Singles, Call, configure, noteInput, setSource, retireSource, releaseSource, trigger, reserve, reserved, seek, advance, takeFrame, Typed, applied}
-use Rattle.engine.proofs.Untouched.{born-keeps, delivered-keeps}
+use Rattle.engine_samples.proofs.Untouched.{born-keeps, delivered-keeps}
 use Rattle.engine_laws.proofs.Sound.{Made, Settled, Sound}
 use Rattle.engine_laws.proofs.Rolloffs.{weights-level}
 

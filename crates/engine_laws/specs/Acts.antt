@@ -27,14 +27,14 @@ use Rattle.timing.specs.Streams.{alignedAll, movedOf, referenceOf}
 use Rattle.state.specs.declared.Clock.{Clock}
 use Rattle.state.specs.declared.Engine.{Engine}
 use Rattle.state.specs.declared.Next.{Next}
-use Rattle.state.specs.State.{withClock, withConfig, withNext, withParticles, withStreams, withWeights, pastSource, pastStream}
+use Rattle.state.specs.State.{withClock, withConfig, withNext, withParticles, withStreams, withWeights, pastSource, pastStream, referenceNow}
 use Rattle.state.specs.Make.{weightsOf}
 use Rattle.births.specs.Birth.{bornOf}
-use Rattle.engine.specs.Sample.{triedOf, laneOf, opportunityAfter, withOpportunity, referenceNow, deliveredOf, tickedOf, steppedOf}
+use Rattle.engine_samples.specs.Sample.{triedOf, laneOf, opportunityAfter, withOpportunity, deliveredOf, tickedOf, steppedOf}
 use Rattle.engine.specs.Advance.{advancedOf}
-use Rattle.engine.specs.Changes.{retiredAll, sameKind, reweighed, switched, offset, offsetTo, enters, preparedAll, withNotes, soughtClock, soughtNext, configuredOf, notesOf, soughtOf}
-use Rattle.engine.specs.Slots.{withSource, setSourceOf, retireSourceOf, releaseSourceOf}
-use Rattle.engine.specs.Triggers.{withIndex, isPermitted, reservedOf, triggeredBy, triggeredOf}
+use Rattle.engine_changes.specs.Changes.{retiredAll, sameKind, reweighed, switched, offset, offsetTo, enters, preparedAll, withNotes, soughtClock, soughtNext, configuredOf, notesOf, soughtOf}
+use Rattle.engine_sources.specs.Slots.{withSource, setSourceOf, retireSourceOf, releaseSourceOf}
+use Rattle.engine_triggers.specs.Triggers.{withIndex, isPermitted, reservedOf, triggeredBy, triggeredOf}
 use Rattle.frame.specs.Frame.{activityOf, accepted}
 use Rattle.frame.specs.Call.{heldOf, freedOf, renewedOf, framedOf}
 

@@ -6,7 +6,7 @@ use lib.Dec.{eqb}
 use Rattle.refusals.specs.declared.Answer.{Answer}
 use Rattle.refusals.specs.declared.Answer.the-variants as A
 use Rattle.refusals.specs.declared.Refusal.{Refusal}
-use Rattle.engine.specs.declared.triggers.Triggered.{Triggered}
+use Rattle.engine_triggers.specs.declared.Triggered.{Triggered}
 use Rattle.state.specs.declared.Done.{Done}
 use Rattle.state.specs.declared.Engine.{Engine}
 use Rattle.windows.specs.declared.Frame.{Frame}

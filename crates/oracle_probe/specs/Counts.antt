@@ -6,8 +6,8 @@ use Rattle.sequences.specs.Times.{iterate}
 use Rattle.floats.specs.Names.{f32, one}
 use Rattle.state.specs.declared.Engine.{Engine}
 use Rattle.engine.specs.New.{newEngineOf}
-use Rattle.engine.specs.Slots.{setSourceOf}
-use Rattle.engine.specs.Triggers.{triggeredOf}
+use Rattle.engine_sources.specs.Slots.{setSourceOf}
+use Rattle.engine_triggers.specs.Triggers.{triggeredOf}
 
 -- a new engine at 48,000 with one source, of 440 Hz, in slot 0
 unfoldable pub sounding : Engine

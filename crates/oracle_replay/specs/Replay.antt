@@ -11,9 +11,9 @@ use Rattle.script.specs.declared.fields.Field.the-variants as F
 use Rattle.script.specs.declared.Read.{Read}
 use Rattle.script.specs.declared.Read.the-variants as S
 use Rattle.script.specs.Field.{readOf}
-use Rattle.engine.specs.declared.triggers.Outcome.{Outcome}
-use Rattle.engine.specs.declared.triggers.Outcome.the-variants as O
-use Rattle.engine.specs.Triggers.{triggeredOf, triggeredBy}
+use Rattle.engine_triggers.specs.declared.Outcome.{Outcome}
+use Rattle.engine_triggers.specs.declared.Outcome.the-variants as O
+use Rattle.engine_triggers.specs.Triggers.{triggeredOf, triggeredBy}
 use Rattle.script_steps.specs.declared.Run.{Run}
 use Rattle.script_steps.specs.Steps.{fresh}
 use Rattle.listing.specs.Turns.{turnOf}

@@ -19,12 +19,12 @@ use Rattle.state.specs.declared.Engine.{Engine}
 use Rattle.state.specs.State.{taken, refused}
 use Rattle.engine.specs.New.{newEngineOf}
 use Rattle.engine.specs.Advance.{advancedOf}
-use Rattle.engine.specs.Slots.{setSourceOf, retireSourceOf, releaseSourceOf}
-use Rattle.engine.specs.Changes.{answeredBy, configuredOf}
-use Rattle.engine.specs.declared.triggers.Triggered.{Triggered}
-use Rattle.engine.specs.declared.triggers.Outcome.{Outcome}
-use Rattle.engine.specs.declared.triggers.Outcome.the-variants as O
-use Rattle.engine.specs.Triggers.{outcomeNumber, told, outcomeOf, reservedOf, triggeredBy, triggeredOf}
+use Rattle.engine_sources.specs.Slots.{setSourceOf, retireSourceOf, releaseSourceOf}
+use Rattle.engine_changes.specs.Changes.{answeredBy, configuredOf}
+use Rattle.engine_triggers.specs.declared.Triggered.{Triggered}
+use Rattle.engine_triggers.specs.declared.Outcome.{Outcome}
+use Rattle.engine_triggers.specs.declared.Outcome.the-variants as O
+use Rattle.engine_triggers.specs.Triggers.{outcomeNumber, told, outcomeOf, reservedOf, triggeredBy, triggeredOf}
 use Rattle.windows.specs.Opening.{emptyFrame}
 use Rattle.frame.specs.declared.Framed.{Framed}
 use Rattle.frame.specs.Frame.{accepted}

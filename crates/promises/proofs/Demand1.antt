@@ -17,9 +17,9 @@ use Rattle.refusals.specs.Numbers.{numberOf, answerOf}
 use Rattle.settings.specs.Settings.{checkedOf, lawfulRate}
 use Rattle.engine.specs.New.{newEngineOf}
 use Rattle.engine.specs.Advance.{advancedOf}
-use Rattle.engine.specs.Slots.{setSourceOf, retireSourceOf, releaseSourceOf}
-use Rattle.engine.specs.Changes.{configuredOf}
-use Rattle.engine.specs.Triggers.{reservedOf, triggeredOf}
+use Rattle.engine_sources.specs.Slots.{setSourceOf, retireSourceOf, releaseSourceOf}
+use Rattle.engine_changes.specs.Changes.{configuredOf}
+use Rattle.engine_triggers.specs.Triggers.{reservedOf, triggeredOf}
 use Rattle.windows.specs.declared.Frame.{Frame}
 use Rattle.frame.specs.Frame.{accepted}
 use Rattle.frame.specs.Call.{takenOf, framedOf}

@@ -21,7 +21,7 @@ use Rattle.pool.specs.Vacancies.{freePlace}
 use Rattle.pool.proofs.Lowest.{lowest-free, held-below}
 use Rattle.state.specs.declared.Engine.{Engine}
 use Rattle.births.specs.Birth.{chosenFor, voiceFor, newbornFor, isBarred, admittedOf, attemptedOf, bornOf}
-use Rattle.engine.specs.Changes.{retiredAll}
+use Rattle.engine_changes.specs.Changes.{retiredAll}
 use Rattle.frame.specs.Freed.{secondsOf, retirementOf, dueOf, sweepOne}
 use Rattle.frame.specs.Call.{heldOf, renewedOf}
 use Rattle.engine_laws.specs.Acts.{Act, birth, retire, retireBound, retune, frame, source, streams, next, clock, weights, settings, act}

@@ -22,7 +22,7 @@ use Rattle.pitch.specs.Partials.{partialCount, keptOf, allowedOf, sumOf, harmon
 use Rattle.pitch_laws.proofs.Harmonics.{no-room}
 use Rattle.settings.specs.Mending.{finiteOr, phaseOf}
 use Rattle.state.specs.declared.Engine.{Engine}
-use Rattle.engine.specs.Changes.{retiredAll, aligned, soughtPhase, soughtOf}
+use Rattle.engine_changes.specs.Changes.{retiredAll, aligned, soughtPhase, soughtOf}
 use Rattle.windows.specs.Opening.{cubic, taperOf, insideOf, opennessOf}
 use Rattle.promises.specs.Marked.{whole, float, picks, window, marked, Same}
 

@@ -16,9 +16,9 @@ use Rattle.settings.specs.Settings.{checkedOf}
 use Rattle.settings.specs.Mending.{mendedOf}
 use Rattle.state.specs.declared.Engine.{Engine}
 use Rattle.state.specs.State.{withConfig}
-use Rattle.engine.specs.Sample.{laneOf, steppedOf}
-use Rattle.engine.specs.Changes.{reweighed, switched, offset}
-use Rattle.engine.specs.Triggers.{reservedOf}
+use Rattle.engine_samples.specs.Sample.{laneOf, steppedOf}
+use Rattle.engine_changes.specs.Changes.{reweighed, switched, offset}
+use Rattle.engine_triggers.specs.Triggers.{reservedOf}
 use Rattle.frame.specs.Frame.{accepted}
 use Rattle.engine_laws.specs.Acts.{Act, birth, retire, retireBound, retune, frame, source, streams, next, clock, weights, settings, act, triedActs, laneActs, shapeActs, deliverActs, sampleActs, advanceActs, restartActs, weighActs, switchActs, offsetActs, configureActs, checkedActs, triggerActs, Call, configure, noteInput, setSource, retireSource, releaseSource, trigger, reserve, reserved, seek, advance, takeFrame, actsOf}
 use Rattle.promises.specs.Life.{Life, Fate, living, freed, due, told, onward, story}

@@ -18,9 +18,9 @@ use Rattle.state.specs.declared.Engine.{Engine}
 use Rattle.floats.specs.Word.{grown}
 use Rattle.state.specs.Tallies.{bornOne}
 use Rattle.births.specs.Birth.{chosenFor, voiceFor, newbornFor, attemptedOf, bornOf}
-use Rattle.engine.specs.declared.triggers.Outcome.the-variants.{Born, NotEligible, Dropped, Refused}
-use Rattle.engine.specs.declared.triggers.Triggered.{Triggered}
-use Rattle.engine.specs.Triggers.{told, reservedOf, isPermitted, outcomeOf, triggeredBy, triggeredOf}
+use Rattle.engine_triggers.specs.declared.Outcome.the-variants.{Born, NotEligible, Dropped, Refused}
+use Rattle.engine_triggers.specs.declared.Triggered.{Triggered}
+use Rattle.engine_triggers.specs.Triggers.{told, reservedOf, isPermitted, outcomeOf, triggeredBy, triggeredOf}
 use Rattle.engine_laws.specs.Acts.{act, perform, triggerActs, reserved, actsOf, applied}
 use Rattle.engine_laws.proofs.Performed.{calls-are-acts}
 use Rattle.promises.specs.Life.{place, permitted}

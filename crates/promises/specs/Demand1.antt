@@ -18,10 +18,10 @@ use Rattle.state.specs.declared.Engine.{Engine}
 use Rattle.state.specs.Make.{preparedOf, newOn}
 use Rattle.engine.specs.New.{newEngineOf}
 use Rattle.engine.specs.Advance.{advancedOf}
-use Rattle.engine.specs.Slots.{setSourceOf, retireSourceOf, releaseSourceOf}
-use Rattle.engine.specs.Changes.{configuredOf}
-use Rattle.engine.specs.declared.triggers.Outcome.the-variants.{Born}
-use Rattle.engine.specs.Triggers.{outcomeNumber, reservedOf, triggeredBy, triggeredOf}
+use Rattle.engine_sources.specs.Slots.{setSourceOf, retireSourceOf, releaseSourceOf}
+use Rattle.engine_changes.specs.Changes.{configuredOf}
+use Rattle.engine_triggers.specs.declared.Outcome.the-variants.{Born}
+use Rattle.engine_triggers.specs.Triggers.{outcomeNumber, reservedOf, triggeredBy, triggeredOf}
 use Rattle.windows.specs.declared.Frame.{Frame}
 use Rattle.windows.specs.Opening.{emptyFrame}
 use Rattle.frame.specs.Call.{framedOf}

@@ -10,7 +10,7 @@ use Rattle.elementary.specs.Sqrt.{sqrtOf}
 use Rattle.pitch.specs.Partials.{partialsOf}
 use Rattle.settings.specs.Mending.{phaseOf}
 use Rattle.state.specs.declared.Engine.{Engine}
-use Rattle.engine.specs.Changes.{soughtOf}
+use Rattle.engine_changes.specs.Changes.{soughtOf}
 use Rattle.windows.specs.declared.Window.{Window}
 use Rattle.windows.specs.Opening.{taperOf, opennessOf}
 

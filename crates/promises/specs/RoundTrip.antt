@@ -9,7 +9,7 @@ use Rattle.script.specs.declared.fields.Field.{Field}
 use Rattle.script.specs.Reading.{readingOf, ended}
 use Rattle.settings.specs.declared.Config.{Config}
 use Rattle.state.specs.declared.Engine.{Engine}
-use Rattle.engine.specs.Changes.{configuredOf}
+use Rattle.engine_changes.specs.Changes.{configuredOf}
 use Rattle.script.specs.declared.fields.Field.the-variants as F
 use Rattle.big_endian.specs.Bytes.{single, double}
 use Rattle.script_writer.specs.Encoded.{encoded, encodedAll}

@@ -8,9 +8,9 @@ use Rattle.sequences.specs.All.{all}
 use Rattle.sequences.specs.Pick.{pick}
 use Rattle.refusals.specs.declared.Refusal.the-variants.{Slot}
 use Rattle.state.specs.declared.Engine.{Engine}
-use Rattle.engine.specs.declared.triggers.Outcome.{Outcome}
-use Rattle.engine.specs.declared.triggers.Outcome.the-variants.{Born, NotEligible, Dropped, Refused}
-use Rattle.engine.specs.Triggers.{isPermitted}
+use Rattle.engine_triggers.specs.declared.Outcome.{Outcome}
+use Rattle.engine_triggers.specs.declared.Outcome.the-variants.{Born, NotEligible, Dropped, Refused}
+use Rattle.engine_triggers.specs.Triggers.{isPermitted}
 use Rattle.promises.specs.Life.{place, Held, newborn}
 use Rattle.promises.specs.Demand3.{Lowest}
 use Rattle.promises.specs.Tests.{badSlot}

@@ -2,8 +2,8 @@
 use mathlib.Core.Path.{_≡_, refl}
 use Rattle.refusals.specs.declared.Answer.{Answer}
 use Rattle.refusals.specs.declared.Answer.the-variants as A
-use Rattle.engine.specs.declared.triggers.Outcome.{Outcome}
-use Rattle.engine.specs.declared.triggers.Outcome.the-variants as O
+use Rattle.engine_triggers.specs.declared.Outcome.{Outcome}
+use Rattle.engine_triggers.specs.declared.Outcome.the-variants as O
 use Rattle.state.specs.declared.Engine.{Engine}
 use Rattle.script_steps.specs.declared.Reply.{Reply}
 use Rattle.script_steps.specs.declared.Run.{Run}

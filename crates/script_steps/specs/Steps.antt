@@ -12,14 +12,14 @@ use Rattle.windows.specs.declared.Frame.{Frame}
 use Rattle.windows.specs.Opening.{emptyFrame}
 use Rattle.state.specs.declared.Engine.{Engine}
 use Rattle.state.specs.declared.Done.{Done}
-use Rattle.engine.specs.declared.triggers.Triggered.{Triggered}
-use Rattle.engine.specs.declared.triggers.Outcome.{Outcome}
-use Rattle.engine.specs.declared.triggers.Outcome.the-variants as O
+use Rattle.engine_triggers.specs.declared.Triggered.{Triggered}
+use Rattle.engine_triggers.specs.declared.Outcome.{Outcome}
+use Rattle.engine_triggers.specs.declared.Outcome.the-variants as O
 use Rattle.engine.specs.New.{newEngineOf, resetOf}
-use Rattle.engine.specs.Changes.{configuredOf, notesOf, soughtOf}
-use Rattle.engine.specs.Slots.{setSourceOf, retireSourceOf, releaseSourceOf}
+use Rattle.engine_changes.specs.Changes.{configuredOf, notesOf, soughtOf}
+use Rattle.engine_sources.specs.Slots.{setSourceOf, retireSourceOf, releaseSourceOf}
 use Rattle.engine.specs.Advance.{advancedOf}
-use Rattle.engine.specs.Triggers.{triggeredOf, reservedOf, triggeredBy}
+use Rattle.engine_triggers.specs.Triggers.{triggeredOf, reservedOf, triggeredBy}
 use Rattle.script_steps.specs.Values.{valuesOf}
 use Rattle.frame.specs.declared.Framed.{Framed}
 use Rattle.frame.specs.Call.{framedOf as takeFrameOf}

@@ -9,7 +9,7 @@ use Rattle.settings.specs.declared.Config.{Config}
 use Rattle.settings.specs.Settings.{checkedOf}
 use Rattle.settings.specs.Mending.{mendedOf, partialsHeld}
 use Rattle.state.specs.declared.Engine.{Engine}
-use Rattle.engine.specs.Changes.{configuredOf}
+use Rattle.engine_changes.specs.Changes.{configuredOf}
 use Rattle.script.specs.declared.fields.Field.the-variants as F
 use Rattle.script_writer.specs.Encoded.{held32, configBytes, encoded}
 use Rattle.script_writer_laws.specs.Wide.{heldConfig}

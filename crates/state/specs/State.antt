@@ -2,6 +2,7 @@
 use mathlib.Core.Bool.{false}
 use mathlib.Core.List.{List}
 use lib.Ieee.{Float, nan}
+use Rattle.floats.specs.Names.{add64}
 use Rattle.pool.specs.declared.Particle.{Particle}
 use Rattle.refusals.specs.declared.Answer.the-variants.{Taken, Refused}
 use Rattle.refusals.specs.declared.Refusal.{Refusal}
@@ -148,3 +149,8 @@ pastSource = record { «frequency_hz» = nan; strength = nan; eligible = false }
 
 abbrev pub pastStream : SprinkleStream
 pastStream = record { index = 0; next = nan; emit = false }
+
+-- ---- where the Rate clock stands
+-- self.phase + self.phase_offset
+abbrev pub referenceNow : Clock → Float
+referenceNow k = add64 (k .phase) (k .«phase_offset»)

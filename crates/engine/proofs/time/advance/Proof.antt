@@ -5,12 +5,12 @@ use mathlib.Core.Path.{_≡_, refl, ap, _∙_}
 use Rattle.sequences.specs.Pick.{took, skipped}
 use Rattle.sequences.specs.Times.{iterate, iterate-none, iterate-more}
 use borrow.Author.Tests.{le-leb, lt-leb}
-use Rattle.engine.specs.Sample.{steppedOf}
+use Rattle.engine_samples.specs.Sample.{steppedOf}
 use mathlib.Core.Logic.{⊎-elim}
 use Rattle.state.specs.State.{withClock}
-use Rattle.engine.proofs.NothingDue.{waited-after}
-use Rattle.engine.proofs.Waits.{waited-few}
-use Rattle.engine.proofs.Delivered.{by-lanes, by-cloud, by-none}
+use Rattle.engine_samples.proofs.NothingDue.{waited-after}
+use Rattle.engine_samples.proofs.Waits.{waited-few}
+use Rattle.engine_samples.proofs.Delivered.{by-lanes, by-cloud, by-none}
 use Rattle.engine.specs.Advance.{advancedOf}
 use Rattle.state.specs.State.{taken}
 use borrow.Author.Needs.{needs}

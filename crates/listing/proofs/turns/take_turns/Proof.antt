@@ -8,7 +8,7 @@ use borrow.Author.Needs.{needs}
 use Rattle.script.proofs.Part.{rest}
 use Rattle.script_steps.specs.Steps.{stepOf}
 use Rattle.script_steps.specs.declared.Run.{Run}
-use Rattle.engine.specs.declared.triggers.Reserved.{Reserved}
+use Rattle.engine_triggers.specs.declared.Reserved.{Reserved}
 use Rattle.listing.proofs.Going.{Going, none-ends, going-start, going-ends, going-on, further}
 use Rattle.listing.specs.declared.turns.Turn.{Turn}
 use Rattle.listing.specs.Reaching.{reachedAt}

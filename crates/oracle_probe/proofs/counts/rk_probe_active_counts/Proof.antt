@@ -3,7 +3,7 @@ use Prim.Native.Nat.{_-_, _≤_}
 use mathlib.Core.Path.{_≡_, refl, ap, _∙_}
 use mathlib.Core.Logic.{⊎-elim}
 use Rattle.sequences.specs.Times.{iterate, iterate-none, iterate-more}
-use Rattle.engine.specs.declared.triggers.Triggered.{Triggered}
+use Rattle.engine_triggers.specs.declared.Triggered.{Triggered}
 use Rattle.oracle_probe.specs.Counts.{sounding, fired, askedOf}
 use Rattle.oracle_probe.proofs.Asked.{with-answer, without}
 use borrow.Author.Needs.{needs}
