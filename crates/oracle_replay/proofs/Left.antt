@@ -16,7 +16,7 @@ use Rattle.script_steps.specs.Steps.{fresh}
 use Rattle.listing.specs.declared.turns.Turn.{Turn}
 use Rattle.listing.specs.Turns.{turnOf}
 use Rattle.listing.proofs.TurnLaws.{turn-taken, turn-three}
-use Rattle.oracle_replay.specs.Late.{runAfter}
+use Rattle.oracle_late.specs.Late.{runAfter}
 use Rattle.oracle_replay.proofs.Whole.{state-length}
 use Rattle.entry.proofs.FrameBytes.{frame-length}
 use Rattle.oracle_replay.specs.Replay.{answerByte, leftBy, leftFrom, leftOf, handedCount, handedIn}

@@ -1,4 +1,3 @@
-pub mod LateText
 pub mod Left
 mod Joined
 pub mod Whole

@@ -1,4 +1,3 @@
-pub mod Late
 pub mod Replay
 pub mod Numbers
 pub mod State

@@ -19,7 +19,7 @@ use Rattle.script_steps.specs.Steps.{fresh}
 use Rattle.listing.specs.Turns.{turnOf}
 use Rattle.listing.specs.declared.Listed.{Listed}
 use Rattle.listing.specs.declared.Listed.the-variants.{Count, Refused}
-use Rattle.oracle_replay.specs.Late.{runAfter}
+use Rattle.oracle_late.specs.Late.{runAfter}
 use Rattle.oracle_replay.specs.State.{stateBytes}
 use Rattle.entry.specs.Entry.{frameBytes}
 

@@ -5,7 +5,7 @@ ghost use Prim.Native.Nat.{_+_, _-_, _<_, _≤_};
 ghost use lib.ListN.{length, drop};
 ghost use Rattle.text.specs.Put.{Put, placeAfter, bufferAfter};
 ghost use Rattle.listing.specs.Listed.{listedOf, leftIn};
-ghost use Rattle.oracle_replay.specs.Late.{listedLate, leftLate};
+ghost use Rattle.oracle_late.specs.Late.{listedLate, leftLate};
 ghost use Rattle.oracle_replay.specs.Replay.{countOf, outcomeByte, triggerOf, answerByte, leftBy, leftFrom, handedCount, handedIn};
 use engine::Outcome;
 use engine::Triggered;
@@ -14,12 +14,9 @@ use script::Field;
 use script::Read;
 use script_steps::Run;
 
-mod late;
 mod numbers;
 mod states;
 mod written;
-
-pub use late::list_script_from;
 
 fn count(listed: Listed) -> usize
     ensures { λ r. ⌜ r ≡ countOf listed ⌝ }
@@ -43,7 +40,7 @@ pub extern "C" fn rk_probe_listing(script: &[u8], out: &mut [u8]) -> usize
 pub extern "C" fn rk_probe_listing_from(start: u64, script: &[u8], out: &mut [u8]) -> usize
     ensures { λ r. ⌜ (r ≡ countOf (listedLate start (length (now (out .entry))) (now (script .entry)))) × (now (out .exit) ≡ leftLate start (now (out .entry)) (now (script .entry))) ⌝ }
 {
-    count(late::list_script_from(start, script, out))
+    count(oracle_late::list_script_from(start, script, out))
 }
 
 fn outcome(triggered: Triggered) -> u8
@@ -130,7 +127,7 @@ fn put_fields(
         }
         let answer = answer(run, n, &script[at..]);
         let next = turn.run;
-        run = late::after(start, n, next);
+        run = oracle_late::after(start, n, next);
         w = put_field(out, w, run, answer);
         at = at + k;
         n = n + 1;

@@ -103,7 +103,7 @@ fn listing_differs(line: &[u8; 84], script: &mut [u8], want: &mut [u8], out: &mu
     let m = until(0, vectors::third(line) as usize, want.len());
     io::read_full(0, &mut want[..m]);
     let start = vectors::answer(line);
-    match oracle_replay::list_script_from(start, &script[..n], out) {
+    match oracle_late::list_script_from(start, &script[..n], out) {
         Listed::Count(k) => {
             if k <= out.len() {
                 return !vectors::same(&out[..k], &want[..m]);

@@ -1,9 +1,9 @@
 -- `counted` meets its contract: one test.
 use borrow.Author.Tests.{eq-eqb, ne-eqb}
 use Rattle.sequences.specs.Pick.{pick}
-use Rattle.oracle_replay.specs.Late.{countedOf}
-use Rattle.oracle_replay.proofs.late.counted.Statement.{statement}
-use Rattle.oracle_replay.proofs.late.counted.Tie as tie
+use Rattle.oracle_late.specs.Late.{countedOf}
+use Rattle.oracle_late.proofs.counted.Statement.{statement}
+use Rattle.oracle_late.proofs.counted.Tie as tie
 
 returns : tie.Need-returns
 unfolding countedOf pick

@@ -20,7 +20,7 @@ use Rattle.listing.specs.Listed.{roomFor}
 use Rattle.listing.specs.Turns.{turnOf}
 use Rattle.listing.proofs.LineSizes.{line-size}
 use Rattle.listing.proofs.TurnLaws.{turn-taken, turn-three}
-use Rattle.oracle_replay.specs.Late.{runAfter, textLate, printedLate}
+use Rattle.oracle_late.specs.Late.{runAfter, textLate, printedLate}
 
 module _ (start f : ℕ) (run : Run) (n : ℕ) (s : List ℕ) where
   last : turnOf run n s .taken ≡ 0 → textOf (turnOf run n s .line) ≡ textLate start (suc f) run n s

@@ -7,10 +7,10 @@ use lib.ListN.{length}
 use Rattle.refusals.specs.declared.Refusal.the-variants.{Script}
 use Rattle.listing.specs.declared.lines.Line.the-variants as L
 use Rattle.listing.proofs.Written.{written}
-use Rattle.oracle_replay.specs.Late.{printedLate}
+use Rattle.oracle_late.specs.Late.{printedLate}
 use borrow.Author.Needs.{needs}
-use Rattle.oracle_replay.proofs.late.put_listing.Statement.{statement}
-use Rattle.oracle_replay.proofs.late.put_listing.Tie as tie
+use Rattle.oracle_late.proofs.put_listing.Statement.{statement}
+use Rattle.oracle_late.proofs.put_listing.Tie as tie
 
 fresh-requires : tie.Need-fresh-requires
 fresh-requires c κs = search needs

@@ -5,11 +5,11 @@ use mathlib.Core.Path.{_≡_}
 use native.Mathlib.Omega.{arith}
 use native.Mathlib.Nat.{le-trans}
 use lib.ListN.{length}
-use Rattle.oracle_replay.specs.Late.{printedLate}
-use Rattle.oracle_replay.proofs.LateText.{size-late}
+use Rattle.oracle_late.specs.Late.{printedLate}
+use Rattle.oracle_late.proofs.LateText.{size-late}
 use borrow.Author.Needs.{needs}
-use Rattle.oracle_replay.proofs.late.list_script_from.Statement.{statement}
-use Rattle.oracle_replay.proofs.late.list_script_from.Tie as tie
+use Rattle.oracle_late.proofs.list_script_from.Statement.{statement}
+use Rattle.oracle_late.proofs.list_script_from.Tie as tie
 
 room-requires : tie.Need-room-requires
 room-requires c κs = search needs

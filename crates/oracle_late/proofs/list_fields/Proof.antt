@@ -7,10 +7,10 @@ use lib.ListN.{length, drop}
 use Rattle.script.proofs.Part.{rest}
 use Rattle.listing.proofs.TurnLaws.{taken-left}
 use Rattle.listing.proofs.Written.{written}
-use Rattle.oracle_replay.specs.Late.{textLate}
-use Rattle.oracle_replay.proofs.LateText.{Goes, stop, go-on}
-use Rattle.oracle_replay.proofs.late.list_fields.Statement.{statement}
-use Rattle.oracle_replay.proofs.late.list_fields.Tie as tie
+use Rattle.oracle_late.specs.Late.{textLate}
+use Rattle.oracle_late.proofs.LateText.{Goes, stop, go-on}
+use Rattle.oracle_late.proofs.list_fields.Statement.{statement}
+use Rattle.oracle_late.proofs.list_fields.Tie as tie
 
 abbrev Inv-loop : tie.InvT-loop
 Inv-loop start n₁ at₁ w₁ script out₀ run₀ n₀ at₀ w₀ out run n at w =

@@ -2,9 +2,9 @@
 use borrow.Author.Needs.{needs}
 use borrow.Author.Tests.{eq-eqb, ne-eqb}
 use Rattle.sequences.specs.Pick.{pick}
-use Rattle.oracle_replay.specs.Late.{runAfter}
-use Rattle.oracle_replay.proofs.late.after.Statement.{statement}
-use Rattle.oracle_replay.proofs.late.after.Tie as tie
+use Rattle.oracle_late.specs.Late.{runAfter}
+use Rattle.oracle_late.proofs.after.Statement.{statement}
+use Rattle.oracle_late.proofs.after.Tie as tie
 
 counted-requires : tie.Need-counted-requires
 counted-requires c κs = search needs

@@ -4,7 +4,7 @@ ghost use mathlib.Core.Path.{_≡_};
 ghost use Prim.Native.Nat.{_+_, _-_, _<_, _≤_};
 ghost use lib.ListN.{length, drop};
 ghost use Rattle.text.specs.Put.{Put};
-ghost use Rattle.oracle_replay.specs.Late.{countedOf, runAfter, textLate, printedLate, listedLate, leftLate};
+ghost use Rattle.oracle_late.specs.Late.{countedOf, runAfter, textLate, printedLate, listedLate, leftLate};
 use listing::Line;
 use listing::Listed;
 use refusals::Refusal;
