@@ -1,5 +1,5 @@
 // Where a new particle sounds: how often and how strongly a register is chosen, the free Cloud's
-// frequency, Sprinkle's octave, and the harmonics of one particle.
+// frequency, Sprinkle's octave, the harmonics of one particle, and the highest frequency of a rate.
 ghost use mathlib.Core.Path.{_≡_};
 ghost use Rattle.pitch.specs.Highest.{maxHzOf};
 
