@@ -6,16 +6,16 @@ use Rattle.sequences.specs.Pick.{pick}
 use Rattle.state.specs.declared.Engine.{Engine}
 use Rattle.engine_triggers.specs.declared.Outcome.{Outcome}
 use Rattle.engine_triggers.specs.declared.Outcome.the-variants.{Born, Dropped}
-use Rattle.engine_triggers.specs.Triggers.{told, outcomeOf}
+use Rattle.engine_triggers.specs.Triggers.{triggeredWith, outcomeOf}
 use Rattle.engine_triggers.specs.Firing.{becameOf}
 
-by-test : (grew-not : Bool) (out : Engine) → told (pick grew-not Born Dropped) out ≡ pick grew-not (told Born out) (told Dropped out)
+by-test : (grew-not : Bool) (out : Engine) → triggeredWith (pick grew-not Born Dropped) out ≡ pick grew-not (triggeredWith Born out) (triggeredWith Dropped out)
 unfolding pick
 by-test true out = refl
 by-test false out = refl
 
-became-told : (e out : Engine) → told (becameOf (e .tally .dropped) (out .tally .dropped)) out ≡ outcomeOf e out
+became-told : (e out : Engine) → triggeredWith (becameOf (e .tally .dropped) (out .tally .dropped)) out ≡ outcomeOf e out
 became-told e out = by-test (eqb (out .tally .dropped) (e .tally .dropped)) out
 
-pub told-as : (e out born : Engine) (o : Outcome) → o ≡ becameOf (e .tally .dropped) (out .tally .dropped) → out ≡ born → told o out ≡ outcomeOf e born
-told-as e out born o p q = ap (λ (x : Outcome). told x out) p ∙ became-told e out ∙ ap (outcomeOf e) q
+pub told-as : (e out born : Engine) (o : Outcome) → o ≡ becameOf (e .tally .dropped) (out .tally .dropped) → out ≡ born → triggeredWith o out ≡ outcomeOf e born
+told-as e out born o p q = ap (λ (x : Outcome). triggeredWith x out) p ∙ became-told e out ∙ ap (outcomeOf e) q

@@ -26,8 +26,8 @@ outcomeNumber NotEligible = 0
 outcomeNumber Dropped = 0
 outcomeNumber (Refused r) = numberOf r
 
-abbrev pub told : Outcome → Engine → Triggered
-told o e = record { outcome = o; engine = e }
+abbrev pub triggeredWith : Outcome → Engine → Triggered
+triggeredWith o e = record { outcome = o; engine = e }
 
 -- self.immediate_index = self.immediate_index.wrapping_add(1)
 abbrev pub withIndex : Next → ℕ → Next
@@ -49,14 +49,14 @@ isPermitted e slot =
 
 -- dropped where `dropped` grew
 abbrev pub outcomeOf : Engine → Engine → Triggered
-outcomeOf e out = pick (eqb (out .tally .dropped) (e .tally .dropped)) (told Born out) (told Dropped out)
+outcomeOf e out = pick (eqb (out .tally .dropped) (e .tally .dropped)) (triggeredWith Born out) (triggeredWith Dropped out)
 
 -- self.birth(index ^ (1 << 63), Some(slot))
 unfoldable pub triggeredBy : Engine → ℕ → ℕ → Triggered
 triggeredBy e slot index =
     pick (ltb slot maxSources)
-    (pick (isPermitted e slot) (outcomeOf e (bornOf e (bitXor index (2 ^ 63)) slot)) (told NotEligible e))
-    (told (Refused Slot) e)
+    (pick (isPermitted e slot) (outcomeOf e (bornOf e (bitXor index (2 ^ 63)) slot)) (triggeredWith NotEligible e))
+    (triggeredWith (Refused Slot) e)
 
 -- let index = self.reserve_trigger(); self.trigger_reserved(slot, index);
 unfoldable pub triggeredOf : Engine → ℕ → Triggered

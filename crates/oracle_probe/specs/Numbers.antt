@@ -16,18 +16,18 @@ use Rattle.settings.specs.declared.Direction.the-variants.{Forward, Reverse, Al
 use Rattle.timing.specs.declared.SprinkleStream.{SprinkleStream}
 use Rattle.timing.specs.Streams.{movedOf}
 
-unfoldable pub shapeOf : ℕ → Shape
-shapeOf n = pick (eqb n 0) Sprinkle Cloud
+unfoldable pub shapeFrom : ℕ → Shape
+shapeFrom n = pick (eqb n 0) Sprinkle Cloud
 
-unfoldable pub directionOf : ℕ → Direction
-directionOf n = pick (eqb n 0) Forward (pick (eqb n 1) Reverse Alternate)
+unfoldable pub directionFrom : ℕ → Direction
+directionFrom n = pick (eqb n 0) Forward (pick (eqb n 1) Reverse Alternate)
 
-unfoldable pub configOf : ℕ → ℕ → Float → Float → Float → ℕ → ℕ → Float → Float → Float → Config
-configOf kind way rate size turn hop count rolloff attack release =
+unfoldable pub configFrom : ℕ → ℕ → Float → Float → Float → ℕ → ℕ → Float → Float → Float → Config
+configFrom kind way rate size turn hop count rolloff attack release =
     record {
       enabled = true;
-      shape = shapeOf kind;
-      direction = directionOf way;
+      shape = shapeFrom kind;
+      direction = directionFrom way;
       «rate_hz» = rate;
       «size_octaves» = size;
       phase = turn;
@@ -45,11 +45,11 @@ unfoldable pub sampledOf : ℕ → ℕ → Float → Bool → SprinkleStream
 sampledOf index lane reference sync = let s = movedOf index lane reference sync in pick (lt reference (s .next)) s (movedOf (s .index) lane reference sync)
 
 -- weights of any kind, by a seed
-unfoldable pub weightOf : ℕ → ℕ → Float
-weightOf seed i = ofBits binary32 (mixOf ((seed + i) % 2 ^ 64) % 4294967296)
+unfoldable pub weightFrom : ℕ → ℕ → Float
+weightFrom seed i = ofBits binary32 (mixOf ((seed + i) % 2 ^ 64) % 4294967296)
 
-unfoldable pub weightsOf : ℕ → List Float
-weightsOf seed = table 24 (weightOf seed)
+unfoldable pub weightsFrom : ℕ → List Float
+weightsFrom seed = table 24 (weightFrom seed)
 
 -- three harmonics as one number
 unfoldable pub packedOf : List ℕ → ℕ

@@ -11,7 +11,7 @@ ghost use lib.Ieee.{binary32, binary64, ofBits, toBits, ofInt, toUnsigned, rem};
 ghost use lib.IntN.{pos};
 ghost use Prim.Native.Nat.{_<_};
 ghost use mathlib.Core.Path.{_≡_};
-ghost use Rattle.oracle_probe.specs.Numbers.{shapeOf, directionOf, configOf, sampledOf, weightOf, weightsOf, packedOf};
+ghost use Rattle.oracle_probe.specs.Numbers.{shapeFrom, directionFrom, configFrom, sampledOf, weightFrom, weightsFrom, packedOf};
 ghost use Rattle.pitch.specs.Register.{heightOf, registerStrength, probabilityOf};
 ghost use Rattle.pitch.specs.Cloud.{frequencyOf};
 ghost use Rattle.pitch.specs.Octave.{registerOf};
@@ -264,7 +264,7 @@ pub extern "C" fn rk_probe_sprinkle_key(lane: u64, index: u64) -> u64
 }
 
 fn shape_of(n: u32) -> Shape
-    ensures { λ r. ⌜ r ≡ shapeOf n ⌝ }
+    ensures { λ r. ⌜ r ≡ shapeFrom n ⌝ }
 {
     if n == 0 {
         Shape::Sprinkle
@@ -274,7 +274,7 @@ fn shape_of(n: u32) -> Shape
 }
 
 fn direction_of(n: u32) -> Direction
-    ensures { λ r. ⌜ r ≡ directionOf n ⌝ }
+    ensures { λ r. ⌜ r ≡ directionFrom n ⌝ }
 {
     if n == 0 {
         return Direction::Forward;
@@ -297,7 +297,7 @@ fn config_of(
     attack: f32,
     release: f32,
 ) -> Config
-    ensures { λ r. ⌜ r ≡ configOf kind way rate size turn hop count rolloff attack release ⌝ }
+    ensures { λ r. ⌜ r ≡ configFrom kind way rate size turn hop count rolloff attack release ⌝ }
 {
     let shape = shape_of(kind);
     let direction = direction_of(way);
@@ -388,7 +388,7 @@ pub extern "C" fn rk_probe_lifetime(
     index: u64,
     sample_rate: f32,
 ) -> f32
-    ensures { λ r. ⌜ r ≡ contourOf (mendedOf (configOf kind way rate size (f32 0) hop 1 (f32 0x40c00000) attack release)) index «sample_rate» .lifetime ⌝ }
+    ensures { λ r. ⌜ r ≡ contourOf (mendedOf (configFrom kind way rate size (f32 0) hop 1 (f32 0x40c00000) attack release)) index «sample_rate» .lifetime ⌝ }
 {
     let config = config_of(kind, way, rate, size, 0.0, hop, 1, 6.0, attack, release);
     let contour = settings::envelope(settings::mended(config), index, sample_rate);
@@ -407,7 +407,7 @@ pub extern "C" fn rk_probe_attack(
     index: u64,
     sample_rate: f32,
 ) -> f32
-    ensures { λ r. ⌜ r ≡ contourOf (mendedOf (configOf kind way rate size (f32 0) hop 1 (f32 0x40c00000) attack release)) index «sample_rate» .attack ⌝ }
+    ensures { λ r. ⌜ r ≡ contourOf (mendedOf (configFrom kind way rate size (f32 0) hop 1 (f32 0x40c00000) attack release)) index «sample_rate» .attack ⌝ }
 {
     let config = config_of(kind, way, rate, size, 0.0, hop, 1, 6.0, attack, release);
     let contour = settings::envelope(settings::mended(config), index, sample_rate);
@@ -522,7 +522,7 @@ pub extern "C" fn rk_probe_free_cloud_frequency(index: u64, max_hz: f32) -> f32
 
 #[no_mangle]
 pub extern "C" fn rk_probe_octave(index: u64, root_hz: f32, max_hz: f32, way: u32) -> f32
-    ensures { λ r. ⌜ r ≡ registerOf index «root_hz» «max_hz» (directionOf way) .octave ⌝ }
+    ensures { λ r. ⌜ r ≡ registerOf index «root_hz» «max_hz» (directionFrom way) .octave ⌝ }
 {
     let register = pitch::sprinkle_register(index, root_hz, max_hz, direction_of(way));
     register.octave
@@ -530,21 +530,21 @@ pub extern "C" fn rk_probe_octave(index: u64, root_hz: f32, max_hz: f32, way: u3
 
 #[no_mangle]
 pub extern "C" fn rk_probe_strength(index: u64, root_hz: f32, max_hz: f32, way: u32) -> f32
-    ensures { λ r. ⌜ r ≡ registerOf index «root_hz» «max_hz» (directionOf way) .strength ⌝ }
+    ensures { λ r. ⌜ r ≡ registerOf index «root_hz» «max_hz» (directionFrom way) .strength ⌝ }
 {
     let register = pitch::sprinkle_register(index, root_hz, max_hz, direction_of(way));
     register.strength
 }
 
 fn weight_of(seed: u64, i: u64) -> f32
-    ensures { λ r. ⌜ r ≡ weightOf seed i ⌝ }
+    ensures { λ r. ⌜ r ≡ weightFrom seed i ⌝ }
 {
     let word = draws::mix(std::num::wrapping_add_u64(seed, i));
     floats::of_bits32((word % 4294967296) as u32)
 }
 
 fn weights_of(seed: u64) -> [f32; 24]
-    ensures { λ r. ⌜ r ≡ weightsOf seed ⌝ }
+    ensures { λ r. ⌜ r ≡ weightsFrom seed ⌝ }
 {
     let mut weights = [0.0f32; 24];
     let mut i: usize = 0;
@@ -570,7 +570,7 @@ fn packed(picks: [u8; 3]) -> u32
 // The harmonics of weights that a seed gives, of every kind of float.
 #[no_mangle]
 pub extern "C" fn rk_probe_select_partials(index: u64, seed: u64, limit: u64, max_ratio: f32) -> u32
-    ensures { λ r. ⌜ r ≡ packedOf (partialsBy index (weightsOf seed) limit «max_ratio») ⌝ }
+    ensures { λ r. ⌜ r ≡ packedOf (partialsBy index (weightsFrom seed) limit «max_ratio») ⌝ }
 {
     let weights = weights_of(seed);
     packed(pitch::select_partials(index, weights, limit as usize, max_ratio))

@@ -10,7 +10,7 @@ use lib.ListN.{length, getD, drop, drop-of-length-le}
 use lib.Seq.{drop-cons}
 use Rattle.sequences.specs.All.{all-at}
 use Rattle.sequences.specs.Pick.{pick}
-use Rattle.picture.specs.Rows.{widthOf, firstBin, sumOf}
+use Rattle.picture.specs.Rows.{rowWidth, firstBin, entriesSum}
 
 -- by the octave of the row
 abbrev pub widths : List ℕ
@@ -32,15 +32,15 @@ abbrev rises : ℕ → Bool
 rises row = ltb (firstBin row) (firstBin (suc row))
 
 pub row-has-a-bin : (row : ℕ) → row < 89 → firstBin row < firstBin (row + 1)
-unfolding firstBin widthOf pick
+unfolding firstBin rowWidth pick
 row-has-a-bin row h = rw add-one (ltb→lt _ _ (all-at rises 89 tt row h))
 
 -- a sum from some entry on
 module _ (es : List ℕ) (i : ℕ) where
-  pub sum-drop : i < length es → sumOf (drop i es) ≡ getD es i 0 + sumOf (drop (suc i) es)
-  unfolding sumOf
-  sum-drop h = ap sumOf (drop-cons es i 0 h)
+  pub sum-drop : i < length es → entriesSum (drop i es) ≡ getD es i 0 + entriesSum (drop (suc i) es)
+  unfolding entriesSum
+  sum-drop h = ap entriesSum (drop-cons es i 0 h)
 
-  pub sum-none : length es ≤ i → sumOf (drop i es) ≡ 0
-  unfolding sumOf
-  sum-none h = ap sumOf (drop-of-length-le es {i = i} h)
+  pub sum-none : length es ≤ i → entriesSum (drop i es) ≡ 0
+  unfolding entriesSum
+  sum-none h = ap entriesSum (drop-of-length-le es {i = i} h)

@@ -6,21 +6,21 @@ use lib.ListN.{length, take, drop}
 use Rattle.sequences.specs.Pick.{pick}
 
 -- how many bins a row has: eight rows an octave, so one bin each up to bin 15, then twice as many with each octave
-unfoldable pub widthOf : ℕ → ℕ
-widthOf row = 2 ^ (row / 8 - 1)
+unfoldable pub rowWidth : ℕ → ℕ
+rowWidth row = 2 ^ (row / 8 - 1)
 
 -- the lowest bin of a row; its others are those below the next row's
 unfoldable pub firstBin : ℕ → ℕ
-firstBin row = pick (ltb row 8) row ((8 + row % 8) * widthOf row)
+firstBin row = pick (ltb row 8) row ((8 + row % 8) * rowWidth row)
 
-unfoldable pub sumOf : List ℕ → ℕ
-sumOf [] = 0
-sumOf (e ∷ es) = e + sumOf es
+unfoldable pub entriesSum : List ℕ → ℕ
+entriesSum [] = 0
+entriesSum (e ∷ es) = e + entriesSum es
 
 -- the whole part of the mean
 unfoldable pub meanOf : List ℕ → ℕ
-meanOf es = sumOf es / length es
+meanOf es = entriesSum es / length es
 
 -- the entries of a row's bins, as far as the record has them
-unfoldable pub rowOf : ℕ → List ℕ → List ℕ
-rowOf row es = take (min (firstBin (row + 1)) (length es) - firstBin row) (drop (firstBin row) es)
+unfoldable pub rowEntries : ℕ → List ℕ → List ℕ
+rowEntries row es = take (min (firstBin (row + 1)) (length es) - firstBin row) (drop (firstBin row) es)

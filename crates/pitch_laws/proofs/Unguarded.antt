@@ -65,8 +65,8 @@ unfolding ramp lt ofBits ofFields odd
 ramp-past-epsilon = rw (low-is, ramp-is) tt
 
 module _ (maxHz : Float) (f : T (fits binary32 maxHz)) (a : T (le leastHz maxHz)) where
-  cloud-bottom : guarded.startOf maxHz ≡ log2Of minHz
-  unfolding guarded.startOf
+  cloud-bottom : guarded.cloudLowerOf maxHz ≡ log2Of minHz
+  unfolding guarded.cloudLowerOf
   cloud-bottom = ap log2Of (bottom maxHz a)
 
   abbrev range : Float

@@ -63,8 +63,8 @@ abbrev pub epsilon : Float
 epsilon = f32 0x34000000
 
 -- PARTICLE_MIN_HZ.min(max_hz * 0.5).log2()
-unfoldable pub startOf : Float → Float
-startOf maxHz = log2Of (min minHz (mul32 maxHz half))
+unfoldable pub cloudLowerOf : Float → Float
+cloudLowerOf maxHz = log2Of (min minHz (mul32 maxHz half))
 
 -- (PARTICLE_FULL_OPENING_HZ.log2() - lower).max(f32::EPSILON)
 unfoldable pub rampOf : Float → Float
@@ -73,7 +73,7 @@ rampOf lower = max (sub32 (log2Of fullHz) lower) epsilon
 -- random(index, 1) * (ramp_mass + (span - ramp).max(0.0)), with ramp_mass up to span.min(ramp), then (lower + offset).exp2()
 unfoldable pub frequencyOf : ℕ → Float → Float
 frequencyOf index maxHz =
-    let lower = startOf maxHz in
+    let lower = cloudLowerOf maxHz in
     let span = sub32 (log2Of maxHz) lower in
     let ramp = rampOf lower in
     let slope = slopeOf ramp in

@@ -24,7 +24,7 @@ use Rattle.engine_changes.specs.Changes.{answeredBy, configuredOf}
 use Rattle.engine_triggers.specs.declared.Triggered.{Triggered}
 use Rattle.engine_triggers.specs.declared.Outcome.{Outcome}
 use Rattle.engine_triggers.specs.declared.Outcome.the-variants as O
-use Rattle.engine_triggers.specs.Triggers.{outcomeNumber, told, outcomeOf, reservedOf, triggeredBy, triggeredOf}
+use Rattle.engine_triggers.specs.Triggers.{outcomeNumber, triggeredWith, outcomeOf, reservedOf, triggeredBy, triggeredOf}
 use Rattle.windows.specs.Opening.{emptyFrame}
 use Rattle.frame.specs.declared.Framed.{Framed}
 use Rattle.frame.specs.Frame.{accepted}
@@ -61,7 +61,7 @@ checked false e c = (refl, λ n. absurd (n refl))
 outcomes : (e out : Engine) → outcomeNumber (outcomeOf e out .outcome) ≡ 0
 outcomes e out = either (λ (t : Triggered). outcomeNumber (t .outcome) ≡ 0) _ _ _ refl refl
 
-fired-by : (b : Bool) (t : Triggered) (e : Engine) → outcomeNumber (t .outcome) ≡ 0 → outcomeNumber (pick b t (told (O.Refused Slot) e) .outcome) ≡ firstOf ((not b, 2) ∷ [])
+fired-by : (b : Bool) (t : Triggered) (e : Engine) → outcomeNumber (t .outcome) ≡ 0 → outcomeNumber (pick b t (triggeredWith (O.Refused Slot) e) .outcome) ≡ firstOf ((not b, 2) ∷ [])
 unfolding firstOf pick
 fired-by true t e h = h
 fired-by false t e h = refl
@@ -70,7 +70,7 @@ pub fired : (e : Engine) (slot index : ℕ) → outcomeNumber (triggeredBy e slo
 unfolding triggeredBy
 fired e slot index = fired-by (ltb slot 256) _ e (either (λ (t : Triggered). outcomeNumber (t .outcome) ≡ 0) _ _ _ (outcomes e _) refl)
 
-missed : (b : Bool) (t : Triggered) (e : Engine) → not b ≡ true → pick b t (told (O.Refused Slot) e) .engine ≡ e
+missed : (b : Bool) (t : Triggered) (e : Engine) → not b ≡ true → pick b t (triggeredWith (O.Refused Slot) e) .engine ≡ e
 unfolding pick
 missed true t e n = absurd (true≢false (sym n))
 missed false t e n = refl

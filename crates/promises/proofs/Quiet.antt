@@ -21,7 +21,7 @@ use Rattle.engine_changes.specs.Changes.{reweighed, switched, offset}
 use Rattle.engine_triggers.specs.Triggers.{reservedOf}
 use Rattle.frame.specs.Frame.{accepted}
 use Rattle.engine_laws.specs.Acts.{Act, birth, retire, retireBound, retune, frame, source, streams, next, clock, weights, settings, act, triedActs, laneActs, shapeActs, deliverActs, sampleActs, advanceActs, restartActs, weighActs, switchActs, offsetActs, configureActs, checkedActs, triggerActs, Call, configure, noteInput, setSource, retireSource, releaseSource, trigger, reserve, reserved, seek, advance, takeFrame, actsOf}
-use Rattle.promises.specs.Life.{Life, Fate, living, freed, due, told, onward, story}
+use Rattle.promises.specs.Life.{Life, Fate, living, freed, due, told, livesOn, story}
 use Rattle.promises.specs.Demand3.{DueFrame}
 use Rattle.promises.proofs.Stories.{not-living, first-due}
 
@@ -118,7 +118,7 @@ one-frame : (e : Engine) (seconds : Float) (l : Life) → story e (frame seconds
 unfolding story told
 one-frame e seconds l s =
     by-case (due e l) (λ y. y)
-    (λ n. absurd (not-living l (sym (ap (λ (f : Fate). onward f (story (act e (frame seconds)) [])) (passed (due e l) freed (living l) n) ∙ s))))
+    (λ n. absurd (not-living l (sym (ap (λ (f : Fate). livesOn f (story (act e (frame seconds)) [])) (passed (due e l) freed (living l) n) ∙ s))))
 
 pub only-frames : (e : Engine) (c : Call) (l : Life) → story e (actsOf e c) l ≡ freed → DueFrame e c l
 unfolding actsOf

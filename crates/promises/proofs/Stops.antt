@@ -22,7 +22,7 @@ use Rattle.script.specs.declared.fields.Field.{Field}
 use Rattle.script.specs.declared.fields.Field.the-variants as F
 use Rattle.script.specs.Field.{misplaced, readOf}
 use Rattle.script.specs.declared.Read.the-variants as R
-use Rattle.script.specs.Reading.{Placed, Reading, Verdict, placed, inFront, ended, bad, onward}
+use Rattle.script.specs.Reading.{Placed, Reading, Verdict, fieldAt, inFront, ended, bad, onward}
 use Rattle.script.proofs.Steps.{Reads, field, wrong, end, onward-reads, moved}
 use Rattle.script.proofs.Whole.{whole}
 use Rattle.script_writer_laws.specs.Events.{isRate, events}
@@ -41,7 +41,7 @@ use Rattle.listing.specs.Printed.{linesOf, lines}
 use Rattle.listing.specs.Ended.{badOf}
 use Rattle.promises.specs.Tests.{firstOf, badRate, testsOf, replyNumber}
 use Rattle.promises.specs.Scripts.{moveOf, Course, reached, begunAt, movedBy, courseFrom}
-use Rattle.promises.specs.Stops.{verdictNumber, badNumber, badIn, refusedNumber, rateNumber, stopRows, goesOn, Through, Stops}
+use Rattle.promises.specs.Stops.{verdictNumber, badNumber, badIn, refusedNumber, rateNumber, stopRows, readsOn, Through, Stops}
 use Rattle.promises.specs.Runs.{run}
 use Rattle.promises.proofs.Answers.{step-answers}
 use Rattle.promises.proofs.Scripts.{nothing-after, turnAt, turn-moved}
@@ -60,7 +60,7 @@ module _ (n k : ℕ) (r : Run) (l : eqb n 1 ≡ false) where
   takes (P.Refused c) = rw l
   takes (P.Framed v) = refl
 
-  goes : (a : Reply) → goesOn (repliedOf n k r a .line) ≡ true
+  goes : (a : Reply) → readsOn (repliedOf n k r a .line) ≡ true
   goes P.Quiet = refl
   goes (P.Refused c) = rw l
   goes (P.Framed v) = refl
@@ -71,7 +71,7 @@ record Goes (run : Run) (n : ℕ) (r : Reading) : Type 0 where
   last : Turn
   split : turnsOver run n (r .fields) (r .verdict) ≡ turns ++ last ∷ []
   one-each : length turns ≡ length (events r)
-  go-on : Every (λ (t : Turn). goesOn (t .line) ≡ true) turns
+  go-on : Every (λ (t : Turn). readsOn (t .line) ≡ true) turns
   at-last : last .line ≡ lastLine (n + length turns) (r .verdict)
 
 from-second : {n at : ℕ} {s : List ℕ} {r : Reading} → Reads n at s r → 2 ≤ n → (run : Run) → Goes run n r
@@ -115,7 +115,7 @@ data Opens (r : Reading) : Type 0 where
   stopped : (x : Float) (fs : List Field) (run : Run) → events r ≡ F.Rate x ∷ fs → badRate x ≡ true → turnsOver fresh 1 (r .fields) (r .verdict) ≡ toldOf run (L.Bad 1 Rate) 0 ∷ [] → Opens r
   went-on : (x : Float) (fs : List Field) → events r ≡ F.Rate x ∷ fs → badRate x ≡ false → Goes fresh 1 r → Opens r
 
-open-rate : (x : Float) (at k : ℕ) {s : List ℕ} {r : Reading} → 3 ≤ k → Reads 2 (at + k) s r → Opens (inFront (placed at k (F.Rate x)) r)
+open-rate : (x : Float) (at k : ℕ) {s : List ℕ} {r : Reading} → 3 ≤ k → Reads 2 (at + k) s r → Opens (inFront (fieldAt at k (F.Rate x)) r)
 unfolding turnsOver lawfulRate pick
 open-rate x at k {r = r} lo d =
     let run = stepOf fresh (F.Rate x) .run in
@@ -139,12 +139,12 @@ open-rate x at k {r = r} lo d =
 opens : {n at : ℕ} {s : List ℕ} {r : Reading} → Reads n at s r → n ≡ 1 → Opens r
 opens {s = s} (field {at = at} {f = f} {k = k} {r = r} e lo hi d) q =
     let first : readOf s true ≡ R.Field f k = rw q at e in
-    subst (λ (g : Field). Opens (inFront (placed at k g) r)) (sym (first-rate s first)) (open-rate (f32At (drop 3 s) 0) at k lo (moved (omega arith) refl refl d))
+    subst (λ (g : Field). Opens (inFront (fieldAt at k g) r)) (sym (first-rate s first)) (open-rate (f32At (drop 3 s) 0) at k lo (moved (omega arith) refl refl d))
 opens (wrong e) q = none refl
 opens (end e) q = none refl
 
 -- ---- the number of the last line
-quiet-number : (l : Line) → goesOn l ≡ true → badNumber l ≡ 0
+quiet-number : (l : Line) → readsOn l ≡ true → badNumber l ≡ 0
 quiet-number L.Nothing g = refl
 quiet-number (L.Frame n v) g = refl
 quiet-number (L.Refused n r) g = refl
@@ -162,7 +162,7 @@ host-number (L.Refused n r) = refl
 host-number (L.Bad n r) = refl
 host-number (L.End n) = refl
 
-bad-last : (ts : List Turn) (last : Turn) → Every (λ (t : Turn). goesOn (t .line) ≡ true) ts → badIn (linesOf (ts ++ last ∷ [])) ≡ badNumber (last .line)
+bad-last : (ts : List Turn) (last : Turn) → Every (λ (t : Turn). readsOn (t .line) ≡ true) ts → badIn (linesOf (ts ++ last ∷ [])) ≡ badNumber (last .line)
 unfolding pick
 bad-last [] last g = by-case (eqb (badNumber (last .line)) 0) (λ y. rw y (sym (eqb-true (badNumber (last .line)) 0 y))) (λ y. rw y)
 bad-last (t ∷ ts) last g = rw (quiet-number (t .line) (g .0)) (bad-last ts last (g .1))
@@ -181,7 +181,7 @@ module _ (s : List ℕ) where
     turns : List Turn
     last : Turn
     split : turnsOf s ≡ turns ++ last ∷ []
-    go-on : Every (λ (t : Turn). goesOn (t .line) ≡ true) turns
+    go-on : Every (λ (t : Turn). readsOn (t .line) ≡ true) turns
     number : badNumber (last .line) ≡ firstOf (stopRows s)
 
   alone : r .fields ≡ [] → turnsOf s ≡ toldOf fresh (lastLine 1 (r .verdict)) 0 ∷ []

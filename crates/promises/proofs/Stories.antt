@@ -25,7 +25,7 @@ use Rattle.state.specs.Tallies.{droppedOne, bornOne}
 use Rattle.births.specs.Birth.{chosenFor, withLast, triedOne, voiceFor, newbornFor, settledAt, isBarred, admittedOf, attemptedOf, bornOf}
 use Rattle.frame.specs.Freed.{sweepOne}
 use Rattle.engine_laws.specs.Acts.{Act, birth, retire, retireBound, retune, frame, source, streams, next, clock, weights, settings, act, perform}
-use Rattle.promises.specs.Life.{place, Held, permitted, newborn, Life, lifeOf, Fate, living, freed, due, firstRetired, retiredAt, told, onward, story}
+use Rattle.promises.specs.Life.{place, Held, permitted, newborn, Life, lifeOf, Fate, living, freed, due, firstRetired, retiredAt, told, livesOn, story}
 use Rattle.promises.specs.Demand3.{Lowest, Born, FirstDue, Fixed}
 use Rattle.promises.proofs.Lives.{touched, fateOf, touched-told, untouched, due-is, lowest-is, barred-is, Newly, changed}
 
@@ -58,7 +58,7 @@ unfolding story perform
 keeps e [] i h l s = (h, cc)
 keeps e (a ∷ rest) i h l s = go (told e a (lifeOf (place e i))) (fate-after e a i h) s (keeps (act e a) rest i)
   where
-    go : (f : Fate) → f ≡ fateOf (place (act e a) i) → onward f (story (act e a) rest) ≡ living l
+    go : (f : Fate) → f ≡ fateOf (place (act e a) i) → livesOn f (story (act e a) rest) ≡ living l
         → (Held (act e a) i → (l : Life) → story (act e a) rest (lifeOf (place (act e a) i)) ≡ living l → Held (perform (act e a) rest) i × (lifeOf (place (perform (act e a) rest) i) ≡ l))
         → Held (perform (act e a) rest) i × (lifeOf (place (perform (act e a) rest) i) ≡ l)
     go freed q s ih = absurd (not-living l s)
@@ -134,7 +134,7 @@ unfolding story
 fixed e [] l l′ s = same l l′ s
 fixed e (a ∷ rest) l l′ s = go (told e a l) refl s (λ (m : Life). fixed (act e a) rest m l′)
   where
-    go : (f : Fate) → told e a l ≡ f → onward f (story (act e a) rest) ≡ living l′ → ((m : Life) → story (act e a) rest m ≡ living l′ → Fixed m l′) → Fixed l l′
+    go : (f : Fate) → told e a l ≡ f → livesOn f (story (act e a) rest) ≡ living l′ → ((m : Life) → story (act e a) rest m ≡ living l′ → Fixed m l′) → Fixed l l′
     go freed q s ih = absurd (not-living l′ s)
     go (living m) q s ih = fixed-on l m l′ (fixed-one e a l m q) (ih m s)
 
@@ -144,7 +144,7 @@ unfolding story perform
 first-due e [] l s = absurd (not-living l (sym s))
 first-due e (a ∷ rest) l s = go (told e a l) refl s (λ (m : Life). first-due (act e a) rest m)
   where
-    go : (f : Fate) → told e a l ≡ f → onward f (story (act e a) rest) ≡ freed → ((m : Life) → story (act e a) rest m ≡ freed → FirstDue (act e a) rest m) → FirstDue e (a ∷ rest) l
+    go : (f : Fate) → told e a l ≡ f → livesOn f (story (act e a) rest) ≡ freed → ((m : Life) → story (act e a) rest m ≡ freed → FirstDue (act e a) rest m) → FirstDue e (a ∷ rest) l
     go freed q s ih =
         let d = frees-only e a l q in
         record { before = []; seconds = d .seconds; after = rest; then = l; split = ap {B = List Act} (λ b. b ∷ rest) (d .is); lives = refl; is-due = d .when }
@@ -156,7 +156,7 @@ first-due e (a ∷ rest) l s = go (told e a l) refl s (λ (m : Life). first-due 
           after = d .after;
           then = d .then;
           split = ap {B = List Act} (λ r. a ∷ r) (d .split);
-          lives = ap (λ (f : Fate). onward f (story (act e a) (d .before))) q ∙ d .lives;
+          lives = ap (λ (f : Fate). livesOn f (story (act e a) (d .before))) q ∙ d .lives;
           is-due = d .is-due;
         }
 
@@ -216,9 +216,9 @@ traced e [] i h = inr (h, refl)
 traced e (a ∷ rest) i h = go (traced (act e a) rest i h)
   where
     held : Held (act e a) i → story (act e a) rest (lifeOf (place (act e a) i)) ≡ living (lifeOf (place (perform (act e a) rest) i)) → Held e i
-        → onward (told e a (lifeOf (place e i))) (story (act e a) rest) ≡ living (lifeOf (place (perform (act e a) rest) i))
+        → livesOn (told e a (lifeOf (place e i))) (story (act e a) rest) ≡ living (lifeOf (place (perform (act e a) rest) i))
     held h′ s y =
-        ap (λ (f : Fate). onward f (story (act e a) rest)) (fate-after e a i y ∙ sym (picked (place (act e a) i .active) (living (lifeOf (place (act e a) i))) freed h′)) ∙ s
+        ap (λ (f : Fate). livesOn f (story (act e a) rest)) (fate-after e a i y ∙ sym (picked (place (act e a) i .active) (living (lifeOf (place (act e a) i))) freed h′)) ∙ s
 
     go : Born (act e a) rest i (lifeOf (place (perform (act e a) rest) i)) ⊎ Lived (act e a) rest i
         → Born e (a ∷ rest) i (lifeOf (place (perform e (a ∷ rest)) i)) ⊎ Lived e (a ∷ rest) i

@@ -20,7 +20,7 @@ use Rattle.state.specs.Tallies.{bornOne}
 use Rattle.births.specs.Birth.{chosenFor, voiceFor, newbornFor, attemptedOf, bornOf}
 use Rattle.engine_triggers.specs.declared.Outcome.the-variants.{Born, NotEligible, Dropped, Refused}
 use Rattle.engine_triggers.specs.declared.Triggered.{Triggered}
-use Rattle.engine_triggers.specs.Triggers.{told, reservedOf, isPermitted, outcomeOf, triggeredBy, triggeredOf}
+use Rattle.engine_triggers.specs.Triggers.{triggeredWith, reservedOf, isPermitted, outcomeOf, triggeredBy, triggeredOf}
 use Rattle.engine_laws.specs.Acts.{act, perform, triggerActs, reserved, actsOf, applied}
 use Rattle.engine_laws.proofs.Performed.{calls-are-acts}
 use Rattle.promises.specs.Life.{place, permitted}
@@ -31,12 +31,12 @@ use Rattle.promises.proofs.Stories.{moved-on, settled-so, dropped-so, p
 
 -- ---- `dropped` tells which it was
 born-outcome : (e out : Engine) → out .tally .dropped ≡ e .tally .dropped → outcomeOf e out .outcome ≡ Born
-born-outcome e out q = ap (λ (t : Triggered). t .outcome) (sym (picked _ (told Born out) (told Dropped out) (eq-eqb (out .tally .dropped) (e .tally .dropped) q)))
+born-outcome e out q = ap (λ (t : Triggered). t .outcome) (sym (picked _ (triggeredWith Born out) (triggeredWith Dropped out) (eq-eqb (out .tally .dropped) (e .tally .dropped) q)))
 
 dropped-outcome : (e out : Engine) → out .tally .dropped ≡ grown (e .tally .dropped) → outcomeOf e out .outcome ≡ Dropped
 dropped-outcome e out q =
     ap (λ (t : Triggered). t .outcome)
-    (sym (passed _ (told Born out) (told Dropped out) (ne-eqb (out .tally .dropped) (e .tally .dropped) (λ h. moved-on (e .tally .dropped) (sym h ∙ q)))))
+    (sym (passed _ (triggeredWith Born out) (triggeredWith Dropped out) (ne-eqb (out .tally .dropped) (e .tally .dropped) (λ h. moved-on (e .tally .dropped) (sym h ∙ q)))))
 
 -- ---- no place is free exactly where all are held
 module _ (e : Engine) (len : Places e) where

@@ -86,12 +86,12 @@ told e (clock k) l = living l
 told e (weights ws) l = living l
 told e (settings c) l = living l
 
-abbrev pub onward : Fate → (Life → Fate) → Fate
-onward freed after = freed
-onward (living l) after = after l
+abbrev pub livesOn : Fate → (Life → Fate) → Fate
+livesOn freed after = freed
+livesOn (living l) after = after l
 
 -- all the acts: freed at the first frame that finds it due
 unfoldable pub story : Engine → List Act → Life → Fate
 unfolding told act
 story e [] l = living l
-story e (a ∷ rest) l = onward (told e a l) (story (act e a) rest)
+story e (a ∷ rest) l = livesOn (told e a l) (story (act e a) rest)

@@ -65,12 +65,12 @@ stopRows s = (not (eqb (rateNumber (fieldsOf s)) 0), 1) ∷ (true, verdictNumber
 
 -- ---- turns
 -- after such a line the next field is read
-abbrev pub goesOn : Line → Bool
-goesOn L.Nothing = true
-goesOn (L.Frame n v) = true
-goesOn (L.Refused n r) = true
-goesOn (L.Bad n r) = false
-goesOn (L.End n) = false
+abbrev pub readsOn : Line → Bool
+readsOn L.Nothing = true
+readsOn (L.Frame n v) = true
+readsOn (L.Refused n r) = true
+readsOn (L.Bad n r) = false
+readsOn (L.End n) = false
 
 -- every field that was read has its turn, after which the script goes on, and behind them stands the line of the verdict
 pub record Through (s : List ℕ) : Type 0 where
@@ -78,7 +78,7 @@ pub record Through (s : List ℕ) : Type 0 where
   pub last : Turn
   pub split : turnsOf s ≡ turns ++ last ∷ []
   pub one-each : length turns ≡ length (fieldsOf s)
-  pub go-on : Every (λ (t : Turn). goesOn (t .line) ≡ true) turns
+  pub go-on : Every (λ (t : Turn). readsOn (t .line) ≡ true) turns
   pub at-last : last .line ≡ lastLine (suc (length turns)) (verdictOf s)
 
 pub record Stops (s : List ℕ) : Type 0 where

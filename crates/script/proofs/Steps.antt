@@ -11,11 +11,11 @@ use Rattle.script.specs.declared.Read.{Read}
 use Rattle.script.specs.declared.Read.the-variants as R
 use Rattle.script.specs.Field.{readOf}
 use Rattle.script.proofs.Taken as T
-use Rattle.script.specs.Reading.{Reading, placed, stopped, inFront, ended, bad, afterRead, readFrom, onward}
+use Rattle.script.specs.Reading.{Reading, fieldAt, stopped, inFront, ended, bad, afterRead, readFrom, onward}
 
 pub data Reads : ℕ → ℕ → List ℕ → Reading → Type 0 where
   field : {n at : ℕ} {s : List ℕ} {f : Field} {k : ℕ} {r : Reading} → readOf s (eqb n 1) ≡ R.Field f k → 3 ≤ k → k ≤ length s
-      → Reads (n + 1) (at + k) (drop k s) r → Reads n at s (inFront (placed at k f) r)
+      → Reads (n + 1) (at + k) (drop k s) r → Reads n at s (inFront (fieldAt at k f) r)
   wrong : {n at : ℕ} {s : List ℕ} {c : Refusal} → readOf s (eqb n 1) ≡ R.Bad c → Reads n at s (stopped at (bad c))
   end : {n at : ℕ} {s : List ℕ} → readOf s (eqb n 1) ≡ R.End → Reads n at s (stopped at ended)
 
@@ -42,7 +42,7 @@ only-from : {n at : ℕ} {s : List ℕ} {r : Reading} → Reads n at s r → (mo
 unfolding readFrom
 only-from (field e lo hi d) zero h = absurd (omega arith)
 only-from {s = s} (field {at = at} {f = f} {k = k} e lo hi d) (suc most) h =
-    rw e (ap (λ (q : Reading). inFront (placed at k f) q) (only-from d most (omega (arith, length-drop k s))))
+    rw e (ap (λ (q : Reading). inFront (fieldAt at k f) q) (only-from d most (omega (arith, length-drop k s))))
 only-from (wrong e) zero h = absurd (omega arith)
 only-from (wrong e) (suc most) h = rw e
 only-from (end e) zero h = absurd (omega arith)

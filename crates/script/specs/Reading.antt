@@ -27,8 +27,8 @@ pub record Reading : Type 0 where
   pub stop : ℕ
   pub verdict : Verdict
 
-abbrev pub placed : ℕ → ℕ → Field → Placed
-placed at k f = record { place = at; size = k; field = f }
+abbrev pub fieldAt : ℕ → ℕ → Field → Placed
+fieldAt at k f = record { place = at; size = k; field = f }
 
 abbrev pub stopped : ℕ → Verdict → Reading
 stopped at v = record { fields = []; stop = at; verdict = v }
@@ -37,7 +37,7 @@ abbrev pub inFront : Placed → Reading → Reading
 inFront p r = record { fields = p ∷ r .fields; stop = r .stop; verdict = r .verdict }
 
 abbrev pub afterRead : ℕ → Read → (ℕ → Reading) → Reading
-afterRead at (R.Field f k) rest = inFront (placed at k f) (rest k)
+afterRead at (R.Field f k) rest = inFront (fieldAt at k f) (rest k)
 afterRead at (R.Bad c) rest = stopped at (bad c)
 afterRead at R.End rest = stopped at ended
 

@@ -12,7 +12,7 @@ use Rattle.sequences.specs.Every.{Every}
 use Rattle.script.specs.declared.fields.Field.{Field}
 use Rattle.script.specs.Field.{readOf}
 use Rattle.script.specs.declared.Read.the-variants as R
-use Rattle.script.specs.Reading.{Reading, placed, stopped, inFront, ended, readingOf}
+use Rattle.script.specs.Reading.{Reading, fieldAt, stopped, inFront, ended, readingOf}
 use Rattle.script.proofs.Steps.{Reads, field, end, only, moved}
 use Rattle.script.proofs.Whole.{end-of-all}
 use Rattle.script_writer.proofs.Sizes.{three-bytes}
@@ -23,14 +23,14 @@ use Rattle.script_writer_laws.proofs.Back.{field-back}
 -- the reading of what was written, from a place on
 abbrev pub backReading : ℕ → List Field → Reading
 backReading at [] = stopped at ended
-backReading at (f ∷ fs) = inFront (placed at (length (encoded f)) f) (backReading (at + length (encoded f)) fs)
+backReading at (f ∷ fs) = inFront (fieldAt at (length (encoded f)) f) (backReading (at + length (encoded f)) fs)
 
 later : (n : ℕ) → 2 ≤ n → eqb n 1 ≡ false
 later n h = ne-eqb n 1 (λ e. omega arith)
 
 -- one event, and what is behind it
 one-more : {n at : ℕ} (f : Field) (fs : List Field) {r : Reading} → readOf (encoded f ++ encodedAll fs) (eqb n 1) ≡ R.Field f (length (encoded f))
-    → Reads (n + 1) (at + length (encoded f)) (encodedAll fs) r → Reads n at (encodedAll (f ∷ fs)) (inFront (placed at (length (encoded f)) f) r)
+    → Reads (n + 1) (at + length (encoded f)) (encodedAll fs) r → Reads n at (encodedAll (f ∷ fs)) (inFront (fieldAt at (length (encoded f)) f) r)
 one-more f fs e d =
     field e (three-bytes f) (omega (arith, length-append (encoded f) (encodedAll fs)))
     (moved refl refl (sym (drop-append-seam (encoded f) (encodedAll fs))) d)

@@ -1,5 +1,5 @@
 -- `weight_of` meets its contract: the callees' answers, put together.
-use Rattle.oracle_probe.specs.Numbers.{weightOf}
+use Rattle.oracle_probe.specs.Numbers.{weightFrom}
 use borrow.Author.Needs.{needs}
 use Rattle.oracle_probe.proofs.weight_of.Statement.{statement}
 use Rattle.oracle_probe.proofs.weight_of.Tie as tie
@@ -17,7 +17,7 @@ of-bits32-requires : tie.Need-of-bits32-requires
 of-bits32-requires c κs = search needs
 
 returns : tie.Need-returns
-unfolding weightOf
+unfolding weightFrom
 returns c = cc
 
 pub weight-of-spec : {M : Type 1} → statement M

@@ -2,12 +2,12 @@
 use borrow.Author.Needs.{needs}
 use Prim.Native.Nat.{_-_}
 use Rattle.sequences.specs.Table.{Filled, filled-none, filled-more, filled-all}
-use Rattle.oracle_probe.specs.Numbers.{weightOf, weightsOf}
+use Rattle.oracle_probe.specs.Numbers.{weightFrom, weightsFrom}
 use Rattle.oracle_probe.proofs.weights_of.Statement.{statement}
 use Rattle.oracle_probe.proofs.weights_of.Tie as tie
 
 abbrev Inv-loop : tie.InvT-loop
-Inv-loop seed weights₀ i₀ weights i = Filled (weightOf seed) 24 i weights
+Inv-loop seed weights₀ i₀ weights i = Filled (weightFrom seed) 24 i weights
 
 abbrev μ-loop : tie.MeasureT-loop
 μ-loop seed weights₀ i₀ weights i = 24 - i
@@ -34,7 +34,7 @@ loop-again : tie.Need-loop-again Inv-loop μ-loop
 loop-again c = filled-more (c .before .before .loop .inv) _ (search needs) (c .weight-of .ensures)
 
 returns : tie.Need-returns Inv-loop μ-loop
-unfolding weightsOf
+unfolding weightsFrom
 returns c = filled-all (c .before .loop .inv) (search needs)
 
 pub weights-of-spec : {M : Type 1} → statement M

@@ -2,7 +2,7 @@
 use native.Mathlib.Omega.{arith}
 use lib.ListN.{length-take, length-drop}
 use borrow.Author.Needs.{needs}
-use Rattle.picture.specs.Rows.{rowOf}
+use Rattle.picture.specs.Rows.{rowEntries}
 use Rattle.picture.proofs.Bins.{row-has-a-bin}
 use Rattle.picture.proofs.rows.row_mean.Statement.{statement}
 use Rattle.picture.proofs.rows.row_mean.Tie as tie
@@ -37,7 +37,7 @@ mean-requires c κs =
     simp (length-take, length-drop) (omega arith)
 
 returns : tie.Need-returns
-unfolding rowOf
+unfolding rowEntries
 returns c =
     rw (← c .before .before .before .before .first-bin .ensures, ← c .before .before .before .first-bin2 .ensures, ← c .before .before .least .ensures)
     (c .mean .ensures)

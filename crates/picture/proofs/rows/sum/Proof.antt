@@ -6,13 +6,13 @@ use native.Mathlib.Numerals.{add-one}
 use native.Mathlib.Omega.{arith}
 use lib.ListN.{length, drop}
 use borrow.Author.Needs.{needs}
-use Rattle.picture.specs.Rows.{sumOf}
+use Rattle.picture.specs.Rows.{entriesSum}
 use Rattle.picture.proofs.Bins.{sum-drop, sum-none}
 use Rattle.picture.proofs.rows.sum.Statement.{statement}
 use Rattle.picture.proofs.rows.sum.Tie as tie
 
 abbrev Inv-loop : tie.InvT-loop
-Inv-loop entries total₀ i₀ i-end total i = (total + sumOf (drop i entries) ≡ sumOf entries) × (total ≤ 65535 * i) × (i ≤ length entries)
+Inv-loop entries total₀ i₀ i-end total i = (total + entriesSum (drop i entries) ≡ entriesSum entries) × (total ≤ 65535 * i) × (i ≤ length entries)
 
 abbrev μ-loop : tie.MeasureT-loop
 μ-loop entries total₀ i₀ i-end total i = length entries - i

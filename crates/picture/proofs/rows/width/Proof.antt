@@ -2,7 +2,7 @@
 use Prim.Native.Nat.{_/_, _<_}
 use native.Mathlib.Omega.{arith}
 use borrow.Author.Needs.{needs}
-use Rattle.picture.specs.Rows.{widthOf}
+use Rattle.picture.specs.Rows.{rowWidth}
 use Rattle.picture.proofs.Bins.{width-is, width-most}
 use Rattle.picture.proofs.rows.width.Statement.{statement}
 use Rattle.picture.proofs.rows.width.Tie as tie
@@ -14,7 +14,7 @@ array-read-result : tie.Need-array-read-result
 array-read-result c = search needs
 
 returns : tie.Need-returns
-unfolding widthOf
+unfolding rowWidth
 returns c =
     let row = c .args .row in
     let h : row / 8 < 12 = omega arith in
