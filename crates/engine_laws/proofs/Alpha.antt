@@ -6,7 +6,7 @@ use lib.IntN.{pos, negsuc}
 use lib.Count.{trailingZeros}
 use lib.Dec.{T, lit≤, lit<}
 use lib.Ieee.{Float, fin, binary32, binary64, ofBits, ofFields, toBits, odd, units, size, span, climb, round, add, sub, mul, neg, sum, le, lt, eq, fits, isNan}
-use lib.Ieee.Fits.{sub-fits, div-fits, and-l, and-r, cond-fits}
+use lib.Ieee.Fits.{sub-fits, and-l, and-r, cond-fits}
 use lib.Ieee.Bits.{ofBits-fits}
 use lib.Ieee.Scale.{finite}
 use Rattle.floats.specs.Names.{f32, f64, sub64, mul64, div64}
@@ -104,9 +104,6 @@ module _ (rate : Float) (p : T (fits binary32 rate)) (l : T (lawfulRate rate)) w
   exponent-small : Under exponent 11 4096
   unfolding ofBits neg
   exponent-small = div-under binary64 (neg one) product 1 1 399 11 4096 (lit< tt) (lit< tt) (lit< tt, lit≤ tt, held binary64 false 1062 12 11 refl (lit< tt)) (lit≤ tt) (lit≤ tt) product-above
-
-  exponent-fits : T (fits binary64 exponent)
-  exponent-fits = div-fits binary64 (neg one) product
 
   -- THE BOUND
   pub alpha-small : Under (alphaOf rate) 3 1024

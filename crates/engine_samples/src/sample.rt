@@ -38,7 +38,7 @@ pub fn lanes(engine: Engine, reference: f64) -> Engine
                 let place = arrival.place;
                 out.next.last_source = arrival.slot;
                 out.tally = tally;
-                if place < 64 {
+                if place < pool::MAX_PARTICLES {
                     out.particles[place] = particle;
                 }
             }
@@ -75,7 +75,7 @@ pub fn cloud(engine: Engine, reference: f64) -> Engine
             let place = arrival.place;
             out.next.last_source = arrival.slot;
             out.tally = tally;
-            if place < 64 {
+            if place < pool::MAX_PARTICLES {
                 out.particles[place] = particle;
             }
         }

@@ -1,6 +1,7 @@
 // The calls on one of the source slots.
 ghost use mathlib.Core.Path.{_≡_};
 ghost use Prim.Native.Nat.{_<_};
+ghost use Rattle.sources.specs.Sources.{maxSources};
 ghost use Rattle.engine_sources.specs.Slots.{suppliedOf, setSourceOf, retireSourceOf, releaseSourceOf};
 use refusals::Refusal;
 use sources::MAX_SOURCES;
@@ -9,7 +10,7 @@ use state::Done;
 use state::Engine;
 
 fn place_source(engine: Engine, slot: usize, source: Source) -> Engine
-    requires { ⌜ slot < 256 ⌝ }
+    requires { ⌜ slot < maxSources ⌝ }
     ensures { λ r. ⌜ r ≡ suppliedOf engine slot source ⌝ }
 {
     let mut out = engine;

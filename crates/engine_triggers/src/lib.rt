@@ -82,7 +82,7 @@ fn fire(engine: Engine, slot: usize, index: u64, after: u64) -> Triggered
             outcome = became(out.tally.dropped, tally.dropped);
             out.next.last_source = arrival.slot;
             out.tally = tally;
-            if place < 64 {
+            if place < pool::MAX_PARTICLES {
                 out.particles[place] = particle;
             }
         }

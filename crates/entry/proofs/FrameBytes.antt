@@ -1,35 +1,30 @@
--- The bytes of a frame: how many, whose window each is of, and a room that they just fill.
-use Prim.Native.Nat.{ℕ, _+_, _/_, _%_, _≤_, _<_}
-use mathlib.Core.Path.{_≡_, ap, _∙_}
+-- The bytes of a frame: how many, the activity behind the windows, and a room that they just fill.
+use Prim.Native.Nat.{ℕ, _+_, _≤_}
+use mathlib.Core.Path.{_≡_, refl, ap, _∙_}
 use mathlib.Core.List.{List, [], _++_, append-nil}
 use native.Mathlib.Omega.{arith}
-use lib.Dec.{ltb}
-use lib.Ieee.{Float}
-use lib.ListN.{length, drop, getD, drop-of-length-le}
-use borrow.Author.Tests.{le-leb, ltb-true}
-use Rattle.sequences.specs.Default.{getD-any}
-use Rattle.sequences.specs.Pick.{pick, by-case}
-use Rattle.sequences.specs.Table.{length-table}
-use Rattle.text.specs.Put.{bufferOf}
-use Rattle.windows.specs.declared.Window.{Window}
+use lib.ListN.{length, drop, length-append, drop-of-length-le}
+use borrow.Author.Tests.{le-leb}
+use Rattle.text.specs.Put.{Put, bufferOf}
+use Rattle.text.proofs.Laws.{seq}
+use Rattle.text.proofs.Joined.{joined-length}
+use Rattle.big_endian.specs.Bytes.{single}
 use Rattle.windows.specs.declared.Frame.{Frame}
-use Rattle.windows.specs.Opening.{emptyWindow}
-use Rattle.entry.specs.Entry.{wordOf, byteOf, byteAt, bytesOf, frameBytes}
+use Rattle.windows.specs.declared.Window.{Window}
+use Rattle.entry.specs.Entry.{windowsBytes, frameBytes}
+
+windows-length : (ws : List Window) → length (windowsBytes ws) ≡ 2304
+unfolding windowsBytes
+windows-length ws = joined-length _ 12 (λ i. refl) 0 192
 
 pub frame-length : (f : Frame) → length (frameBytes f) ≡ 2308
-unfolding bytesOf
-frame-length f = length-table 2308 (byteAt (f .windows) (f .activity))
+unfolding frameBytes
+frame-length f = rw (length-append, windows-length)
 
--- the index begins again only behind the windows, where none is looked at
-pub its-window : (ws : List Window) (activity : Float) (j : ℕ) (d : Window) → length ws ≡ 192 → byteOf (getD ws (j / 12 % 192) d) activity j ≡ byteAt ws activity j
-unfolding byteAt byteOf wordOf pick
-its-window ws activity j d long =
-    by-case (ltb (j / 4) 576)
-    (λ y.
-    let k : j / 4 < 576 = ltb-true _ _ y in
-    let same : j / 12 % 192 ≡ j / 12 = omega arith in
-    rw same (ap (λ (w : Window). byteOf w activity j) (getD-any ws (j / 12) d emptyWindow (omega arith))))
-    (λ n. rw n)
+-- the activity behind the windows
+pub both-parts : (f : Frame) {o p q : List ℕ} {at r t : ℕ} → Put o p at r (windowsBytes (f .windows)) → Put p q r t (single (f .activity)) → Put o q at t (frameBytes f)
+unfolding frameBytes
+both-parts f a b = seq a b
 
 -- a frame put where it just fits
 pub whole-room : (o : List ℕ) (f : Frame) → length o ≡ 2308 → bufferOf o 0 (frameBytes f) ≡ frameBytes f

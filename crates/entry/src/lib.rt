@@ -1,8 +1,7 @@
 // What a host asks a script for: its last accepted frame, as bytes.
 ghost use mathlib.Core.Path.{_≡_};
-ghost use Rattle.text.specs.Put.{placeOf, bufferOf};
-ghost use Rattle.entry.specs.Entry.{partOf, wordOf, digitOf, byteOf, bytesOf, frameBytes, entryAnswer, entryBytes};
-use listing::Ended;
+ghost use Rattle.text.specs.Put.{Put, placeOf, bufferOf};
+ghost use Rattle.entry.specs.Entry.{windowBytes, windowsBytes, frameBytes, entryAnswer, entryBytes};
 use refusals::Answer;
 use refusals::Refusal;
 use windows::Frame;
@@ -11,61 +10,39 @@ use windows::Window;
 pub const FRAME_BYTES: usize = 2308;
 
 // Centre, radius, amplitude.
-fn part(w: Window, i: usize) -> f32
-    ensures { λ r. ⌜ r ≡ partOf w i ⌝ }
+fn window_bytes(w: Window) -> [u8; 12]
+    ensures { λ r. ⌜ r ≡ windowBytes w ⌝ }
 {
-    if i == 0 {
-        return w.center_log2_hz;
-    }
-    if i == 1 {
-        return w.radius_octaves;
-    }
-    w.amplitude
+    let c = big_endian::single(w.center_log2_hz);
+    let r = big_endian::single(w.radius_octaves);
+    let a = big_endian::single(w.amplitude);
+    [
+        c[0],
+        c[1],
+        c[2],
+        c[3],
+        r[0],
+        r[1],
+        r[2],
+        r[3],
+        a[0],
+        a[1],
+        a[2],
+        a[3],
+    ]
 }
 
-// The bits of number i, three for each window and then the activity; w is the window of number i.
-fn word(w: Window, activity: f32, i: usize) -> u32
-    ensures { λ r. ⌜ r ≡ wordOf w activity i ⌝ }
+// The windows behind what `out` has before `at`.
+fn put_windows(out: &mut [u8], at: usize, windows: [Window; 192]) -> usize
+    ensures { λ r. ⌜ Put (now (out .entry)) (now (out .exit)) at r (windowsBytes windows) ⌝ }
 {
-    if i < 576 {
-        return floats::bits32(part(w, i % 3));
+    let mut at = at;
+    for j in 0..192 {
+        let w = windows[j];
+        let bytes = window_bytes(w);
+        at = text::put(out, at, &bytes);
     }
-    floats::bits32(activity)
-}
-
-// Byte i of four, the highest first.
-fn digit(n: u32, i: usize) -> u8
-    ensures { λ r. ⌜ r ≡ digitOf n i ⌝ }
-{
-    if i == 0 {
-        return (n / 16777216) as u8;
-    }
-    if i == 1 {
-        return (n / 65536 % 256) as u8;
-    }
-    if i == 2 {
-        return (n / 256 % 256) as u8;
-    }
-    (n % 256) as u8
-}
-
-fn byte(w: Window, activity: f32, j: usize) -> u8
-    ensures { λ r. ⌜ r ≡ byteOf w activity j ⌝ }
-{
-    digit(word(w, activity, j / 4), j % 4)
-}
-
-// One window at a time: handed on whole they would be copied for every byte. Behind the last of them
-// stands the activity, whatever window comes with it.
-fn bytes(ws: [Window; 192], activity: f32) -> [u8; 2308]
-    ensures { λ r. ⌜ r ≡ bytesOf ws activity ⌝ }
-{
-    let mut out = [0u8; 2308];
-    for j in 0..FRAME_BYTES {
-        let w = ws[j / 12 % 192];
-        out[j] = byte(w, activity, j);
-    }
-    out
+    at
 }
 
 // A frame's bytes from a place on, and the place after them. Where they do not fit none is written, and
@@ -73,9 +50,16 @@ fn bytes(ws: [Window; 192], activity: f32) -> [u8; 2308]
 pub fn put_frame(out: &mut [u8], at: usize, frame: Frame) -> usize
     ensures { λ r. ⌜ (r ≡ placeOf (now (out .entry)) at (frameBytes frame)) × (now (out .exit) ≡ bufferOf (now (out .entry)) at (frameBytes frame)) ⌝ }
 {
-    let ws = frame.windows;
-    let bytes = bytes(ws, frame.activity);
-    text::put(out, at, &bytes)
+    if out.len() < at {
+        return out.len() + 1;
+    }
+    if out.len() - at < FRAME_BYTES {
+        return out.len() + 1;
+    }
+    let windows = frame.windows;
+    let at = put_windows(out, at, windows);
+    let activity = big_endian::single(frame.activity);
+    text::put(out, at, &activity)
 }
 
 // The bytes change only where the answer is `Taken`.

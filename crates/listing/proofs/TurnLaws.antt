@@ -1,4 +1,4 @@
--- Laws of a turn: how many bytes it takes; and a start of 0 samples is an ordinary one.
+-- Laws of a turn: how many bytes it takes; and that the run with what the turn says is the turn.
 use Prim.Native.Nat.{ℕ, _-_, _≤_, zero-le}
 use mathlib.Core.Path.{_≡_, refl, ap, _∙_}
 use mathlib.Core.Bool.{Bool, true, false}

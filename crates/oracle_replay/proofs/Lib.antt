@@ -1,3 +1,2 @@
 pub mod Left
-mod Joined
 pub mod Whole

@@ -15,6 +15,7 @@ use Rattle.settings.specs.declared.Shape.the-variants.{Sprinkle, Cloud}
 use Rattle.settings.specs.declared.Direction.{Direction}
 use Rattle.settings.specs.declared.Direction.the-variants.{Forward, Reverse, Alternate}
 use Rattle.sources.specs.declared.Source.{Source}
+use Rattle.sources.specs.Sources.{noSlot}
 use Rattle.state.specs.declared.Engine.{Engine}
 use Rattle.state.specs.declared.Prepared.{Prepared}
 use Rattle.timing.specs.declared.SprinkleStream.{SprinkleStream}
@@ -25,9 +26,8 @@ noneWord = 18446744073709551615
 unfoldable pub flagWord : Bool → ℕ
 flagWord b = pick b 1 0
 
--- 256 stands for no source
 unfoldable pub slotOf : ℕ → ℕ
-slotOf n = pick (eqb n 256) noneWord n
+slotOf n = pick (eqb n noSlot) noneWord n
 
 abbrev pub retiredWord : Retired → ℕ
 retiredWord Not = noneWord
@@ -42,23 +42,23 @@ directionWord Forward = 0
 directionWord Reverse = 1
 directionWord Alternate = 2
 
-abbrev single : Float → ℕ
-single x = toBits binary32 x
+abbrev bits32 : Float → ℕ
+bits32 x = toBits binary32 x
 
-abbrev double : Float → ℕ
-double x = toBits binary64 x
+abbrev bits64 : Float → ℕ
+bits64 x = toBits binary64 x
 
 abbrev pub countsOf : Engine → List ℕ
 countsOf e =
     e .clock .sample
-    ∷ double (e .clock .phase)
-    ∷ double (e .clock .«phase_offset»)
+    ∷ bits64 (e .clock .phase)
+    ∷ bits64 (e .clock .«phase_offset»)
     ∷ e .next .opportunity
     ∷ e .next .«immediate_index»
     ∷ slotOf (e .next .«last_source»)
     ∷ flagWord (e .next .«note_input_present»)
     ∷ e .tally .attempts
-    ∷ single (e .activity)
+    ∷ bits32 (e .activity)
     ∷ e .tally .births
     ∷ e .tally .dropped
     ∷ e .tally .«decision_hash»
@@ -70,42 +70,42 @@ configWords c =
     flagWord (c .enabled)
     ∷ shapeWord (c .shape)
     ∷ directionWord (c .direction)
-    ∷ single (c .«rate_hz»)
-    ∷ single (c .«size_octaves»)
-    ∷ single (c .phase)
+    ∷ bits32 (c .«rate_hz»)
+    ∷ bits32 (c .«size_octaves»)
+    ∷ bits32 (c .phase)
     ∷ flagWord (c .scheduled)
     ∷ flagWord (c .sync)
     ∷ c .«hop_samples»
     ∷ c .partials
-    ∷ single (c .«partial_rolloff_db»)
-    ∷ single (c .«attack_ms»)
-    ∷ single (c .«release_ms»)
+    ∷ bits32 (c .«partial_rolloff_db»)
+    ∷ bits32 (c .«attack_ms»)
+    ∷ bits32 (c .«release_ms»)
     ∷ []
 
 abbrev pub preparedWords : Prepared → List ℕ
-preparedWords p = double (p .«sample_rate») ∷ double (p .«phase_alpha») ∷ []
+preparedWords p = bits64 (p .«sample_rate») ∷ bits64 (p .«phase_alpha») ∷ []
 
 -- the log of a harmonic, its weight at the start, and its weight now
 abbrev pub harmonicWords : Float → Float → Float → List ℕ
-harmonicWords log first now = single log ∷ single first ∷ single now ∷ []
+harmonicWords log first now = bits32 log ∷ bits32 first ∷ bits32 now ∷ []
 
 abbrev pub streamWords : SprinkleStream → List ℕ
-streamWords s = s .index ∷ double (s .next) ∷ flagWord (s .emit) ∷ []
+streamWords s = s .index ∷ bits64 (s .next) ∷ flagWord (s .emit) ∷ []
 
 abbrev pub sourceWords : Source → List ℕ
-sourceWords s = single (s .«frequency_hz») ∷ single (s .strength) ∷ flagWord (s .eligible) ∷ []
+sourceWords s = bits32 (s .«frequency_hz») ∷ bits32 (s .strength) ∷ flagWord (s .eligible) ∷ []
 
 abbrev pub particleOf : Particle → List ℕ
 particleOf p =
     flagWord (p .active)
     ∷ slotOf (p .source)
     ∷ p .birth
-    ∷ double (p .lifetime)
-    ∷ single (p .«frequency_hz»)
-    ∷ single (p .octave)
-    ∷ single (p .width)
-    ∷ single (p .strength)
-    ∷ single (p .attack)
+    ∷ bits64 (p .lifetime)
+    ∷ bits32 (p .«frequency_hz»)
+    ∷ bits32 (p .octave)
+    ∷ bits32 (p .width)
+    ∷ bits32 (p .strength)
+    ∷ bits32 (p .attack)
     ∷ p .«decay_power»
     ∷ getD (p .partials) 0 0
     ∷ getD (p .partials) 1 0

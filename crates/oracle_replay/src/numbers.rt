@@ -8,6 +8,7 @@ use pool::Retired;
 use settings::Config;
 use settings::Direction;
 use settings::Shape;
+use sources::NO_SOURCE;
 use sources::Source;
 use state::Engine;
 use state::Prepared;
@@ -24,7 +25,7 @@ fn flag(b: bool) -> u64
 fn slot(n: usize) -> u64
     ensures { λ r. ⌜ r ≡ slotOf n ⌝ }
 {
-    if n == 256 {
+    if n == NO_SOURCE {
         return NONE;
     }
     n as u64

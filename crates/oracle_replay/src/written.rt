@@ -1,24 +1,18 @@
 // The state as bytes in a lent buffer: 8 for each number, the highest first.
 ghost use Rattle.text.specs.Put.{Put};
-ghost use Rattle.oracle_replay.specs.State.{wordBytes, wordsBytes, harmonicsBytes, streamsBytes, sourcesBytes, particlesBytes, stateBytes};
+ghost use Rattle.big_endian.specs.Bytes.{bytes64};
+ghost use Rattle.oracle_replay.specs.State.{wordsBytes, harmonicsBytes, streamsBytes, sourcesBytes, particlesBytes, stateBytes};
+use pool::MAX_PARTICLES;
 use pool::Particle;
+use sources::MAX_SOURCES;
 use sources::Source;
 use state::Engine;
 use timing::SprinkleStream;
 
 fn put_word(out: &mut [u8], at: usize, n: u64) -> usize
-    ensures { λ r. ⌜ Put (now (out .entry)) (now (out .exit)) at r (wordBytes n) ⌝ }
+    ensures { λ r. ⌜ Put (now (out .entry)) (now (out .exit)) at r (bytes64 n) ⌝ }
 {
-    let bytes = [
-        (n / 72057594037927936 % 256) as u8,
-        (n / 281474976710656 % 256) as u8,
-        (n / 1099511627776 % 256) as u8,
-        (n / 4294967296 % 256) as u8,
-        (n / 16777216 % 256) as u8,
-        (n / 65536 % 256) as u8,
-        (n / 256 % 256) as u8,
-        (n % 256) as u8,
-    ];
+    let bytes = big_endian::bytes64(n);
     text::put(out, at, &bytes)
 }
 
@@ -61,11 +55,11 @@ fn put_streams(out: &mut [u8], at: usize, streams: [SprinkleStream; 3]) -> usize
     at
 }
 
-fn put_sources(out: &mut [u8], at: usize, sources: [Source; 256]) -> usize
+fn put_sources(out: &mut [u8], at: usize, sources: [Source; MAX_SOURCES]) -> usize
     ensures { λ r. ⌜ Put (now (out .entry)) (now (out .exit)) at r (sourcesBytes sources) ⌝ }
 {
     let mut at = at;
-    for i in 0..256 {
+    for i in 0..MAX_SOURCES {
         let source = sources[i];
         let words = crate::numbers::source(source);
         at = put_words(out, at, &words);
@@ -73,11 +67,11 @@ fn put_sources(out: &mut [u8], at: usize, sources: [Source; 256]) -> usize
     at
 }
 
-fn put_particles(out: &mut [u8], at: usize, particles: [Particle; 64]) -> usize
+fn put_particles(out: &mut [u8], at: usize, particles: [Particle; MAX_PARTICLES]) -> usize
     ensures { λ r. ⌜ Put (now (out .entry)) (now (out .exit)) at r (particlesBytes particles) ⌝ }
 {
     let mut at = at;
-    for i in 0..64 {
+    for i in 0..MAX_PARTICLES {
         let particle = particles[i];
         let words = crate::numbers::particle(particle);
         at = put_words(out, at, &words);

@@ -1,19 +1,13 @@
 // A field from its header on, where its tag is known.
 ghost use mathlib.Core.Path.{_≡_};
-ghost use Prim.Native.Nat.{_+_, _*_, _≤_};
+ghost use Prim.Native.Nat.{_≤_};
 ghost use lib.ListN.{length};
 ghost use Rattle.script.specs.Field.{bodyOf};
 use crate::Read;
 use crate::tags;
 use crate::tags::Kind;
+use big_endian::be16_at;
 use refusals::Refusal;
-
-// The length that a header says.
-fn length_said(high: u8, low: u8) -> usize
-    ensures { λ r. ⌜ r ≡ high * 256 + low ⌝ }
-{
-    (high as usize) * 256 + (low as usize)
-}
 
 // The length, the value cut, the value.
 pub fn body_of(kind: Kind, s: &[u8]) -> Read
@@ -23,7 +17,7 @@ pub fn body_of(kind: Kind, s: &[u8]) -> Read
     let v = &s[3..];
     let row = tags::row_of(kind, v);
     let n = row.length;
-    let said = length_said(s[1], s[2]);
+    let said = be16_at(s, 1) as usize;
     if said != n {
         return Read::Bad(Refusal::Cut);
     }

@@ -1,9 +1,9 @@
 -- `put_state` meets its contract: two tests of the room, and then the state.
 use borrow.Author.Needs.{needs}
 use native.Mathlib.Omega.{arith}
-use Rattle.text.proofs.Laws.{no-room}
+use Rattle.text.proofs.Laws.{no-room, with-room}
 use Rattle.oracle_replay.specs.State.{stateBytes}
-use Rattle.oracle_replay.proofs.Whole.{state-length, with-room}
+use Rattle.oracle_replay.proofs.Whole.{state-length}
 use Rattle.oracle_replay.proofs.states.put_state.Statement.{statement}
 use Rattle.oracle_replay.proofs.states.put_state.Tie as tie
 

@@ -5,7 +5,7 @@ use lib.ListN.{getD}
 use lib.Ieee.{nan}
 use Rattle.oracle_replay.specs.Numbers.{harmonicWords}
 use Rattle.oracle_replay.specs.State.{wordsBytes, harmonicsBytes}
-use Rattle.oracle_replay.proofs.Joined.{Pieces, none-yet, one-more, all-there}
+use Rattle.text.proofs.Joined.{Pieces, none-yet, one-more, all-there}
 use borrow.Author.Needs.{needs}
 use Rattle.oracle_replay.proofs.written.put_harmonics.Statement.{statement}
 use Rattle.oracle_replay.proofs.written.put_harmonics.Tie as tie

@@ -6,7 +6,7 @@ use Rattle.pool.specs.Pool.{freeParticle}
 use Rattle.sequences.specs.Default.{getD-any}
 use Rattle.oracle_replay.specs.Numbers.{particleOf}
 use Rattle.oracle_replay.specs.State.{wordsBytes, particlesBytes}
-use Rattle.oracle_replay.proofs.Joined.{Pieces, none-yet, one-more, all-there}
+use Rattle.text.proofs.Joined.{Pieces, none-yet, one-more, all-there}
 use borrow.Author.Needs.{needs}
 use Rattle.oracle_replay.proofs.written.put_particles.Statement.{statement}
 use Rattle.oracle_replay.proofs.written.put_particles.Tie as tie

@@ -6,7 +6,7 @@ use Rattle.sources.specs.Sources.{noSource}
 use Rattle.sequences.specs.Default.{getD-any}
 use Rattle.oracle_replay.specs.Numbers.{sourceWords}
 use Rattle.oracle_replay.specs.State.{wordsBytes, sourcesBytes}
-use Rattle.oracle_replay.proofs.Joined.{Pieces, none-yet, one-more, all-there}
+use Rattle.text.proofs.Joined.{Pieces, none-yet, one-more, all-there}
 use borrow.Author.Needs.{needs}
 use Rattle.oracle_replay.proofs.written.put_sources.Statement.{statement}
 use Rattle.oracle_replay.proofs.written.put_sources.Tie as tie

@@ -7,7 +7,7 @@ use Rattle.timing.specs.Streams.{newOf}
 use Rattle.sequences.specs.Default.{getD-any}
 use Rattle.oracle_replay.specs.Numbers.{streamWords}
 use Rattle.oracle_replay.specs.State.{wordsBytes, streamsBytes}
-use Rattle.oracle_replay.proofs.Joined.{Pieces, none-yet, one-more, all-there}
+use Rattle.text.proofs.Joined.{Pieces, none-yet, one-more, all-there}
 use borrow.Author.Needs.{needs}
 use Rattle.oracle_replay.proofs.written.put_streams.Statement.{statement}
 use Rattle.oracle_replay.proofs.written.put_streams.Tie as tie

@@ -3,14 +3,15 @@ use Prim.Native.Nat.{_-_}
 use mathlib.Core.Path.{_≡_, refl}
 use native.Mathlib.Omega.{arith}
 use lib.ListN.{length, getD}
-use Rattle.oracle_replay.specs.State.{wordBytes, wordsBytes}
-use Rattle.oracle_replay.proofs.Joined.{Pieces, none-yet, one-more, all-there}
+use Rattle.oracle_replay.specs.State.{wordsBytes}
+use Rattle.big_endian.specs.Bytes.{bytes64}
+use Rattle.text.proofs.Joined.{Pieces, none-yet, one-more, all-there}
 use borrow.Author.Needs.{needs}
 use Rattle.oracle_replay.proofs.written.put_words.Statement.{statement}
 use Rattle.oracle_replay.proofs.written.put_words.Tie as tie
 
 abbrev Inv-loop : tie.InvT-loop
-Inv-loop out₀ at words at₀ i₀ i-end out at' i = (i-end ≡ length words) × Pieces (λ k. wordBytes (getD words k 0)) (length words) out₀ at₀ out i at'
+Inv-loop out₀ at words at₀ i₀ i-end out at' i = (i-end ≡ length words) × Pieces (λ k. bytes64 (getD words k 0)) (length words) out₀ at₀ out i at'
 
 abbrev μ-loop : tie.MeasureT-loop
 μ-loop out₀ at words at₀ i₀ i-end out at' i = i-end - i

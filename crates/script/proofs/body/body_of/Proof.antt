@@ -18,42 +18,39 @@ part-v-end c = search needs
 row-of-requires : tie.Need-row-of-requires
 row-of-requires c κs = search needs
 
-shared-slice-read-length-said : tie.Need-shared-slice-read-length-said
-shared-slice-read-length-said c = search needs
+be16-at-requires : tie.Need-be16-at-requires
+be16-at-requires c κs = search needs
 
-shared-slice-read-length-said-2 : tie.Need-shared-slice-read-length-said-2
-shared-slice-read-length-said-2 c = search needs
-
-length-said-requires : tie.Need-length-said-requires
-length-said-requires c κs = search needs
+cast-said : tie.Need-cast-said
+cast-said c = search needs
 
 returns : tie.Need-returns
 unfolding bodyOf
-returns c = rw (← c .before .length-said .ensures, ← c .before .before .before .before .row-of .ensures .0, ne-eqb _ _ (c .if1 .taken))
+returns c = rw (← c .before .be16-at .ensures, ← c .before .before .row-of .ensures .0, ne-eqb _ _ (c .if1 .taken))
 
 sub-if2 : tie.Need-sub-if2
 sub-if2 c = search needs
 
 returns-2 : tie.Need-returns-2
 unfolding bodyOf
-returns-2 c = rw (← c .before .before .length-said .ensures, ← c .before .before .before .before .before .row-of .ensures .0, eq-eqb _ _ (c .before .if1 .left), lt-leb _ _ (c .if2 .taken))
+returns-2 c = rw (← c .before .before .be16-at .ensures, ← c .before .before .before .row-of .ensures .0, eq-eqb _ _ (c .before .if1 .left), lt-leb _ _ (c .if2 .taken))
 
-add-t20 : tie.Need-add-t20
-add-t20 c = search needs
+add-t17 : tie.Need-add-t17
+add-t17 c = search needs
 
 returns-3 : tie.Need-returns-3
 unfolding bodyOf
 returns-3 c =
-    let s = c .before .before .before .before .before .before .before .before .before .args .s .now in
-    let row = rw (rest 3 s) at (c .before .before .before .before .before .before .row-of .ensures) in
-    rw (← c .before .before .before .length-said .ensures, ← row .0, eq-eqb _ _ (c .before .before .if1 .left), le-leb _ _ (c .before .if2 .left), ← row .1, c .if3 .taken, ← row .2)
+    let s = c .before .before .before .before .before .before .before .args .s .now in
+    let row = rw (rest 3 s) at (c .before .before .before .before .row-of .ensures) in
+    rw (← c .before .before .before .be16-at .ensures, ← row .0, eq-eqb _ _ (c .before .before .if1 .left), le-leb _ _ (c .before .if2 .left), ← row .1, c .if3 .taken, ← row .2)
 
 returns-4 : tie.Need-returns-4
 unfolding bodyOf
 returns-4 c =
-    let s = c .before .before .before .before .before .before .before .before .before .args .s .now in
-    let row = rw (rest 3 s) at (c .before .before .before .before .before .before .row-of .ensures) in
-    rw (← c .before .before .before .length-said .ensures, ← row .0, eq-eqb _ _ (c .before .before .if1 .left), le-leb _ _ (c .before .if2 .left), ← row .1, c .if3 .left)
+    let s = c .before .before .before .before .before .before .before .args .s .now in
+    let row = rw (rest 3 s) at (c .before .before .before .before .row-of .ensures) in
+    rw (← c .before .before .before .be16-at .ensures, ← row .0, eq-eqb _ _ (c .before .before .if1 .left), le-leb _ _ (c .before .if2 .left), ← row .1, c .if3 .left)
 
 pub body-of-spec : {M : Type 1} → statement M
 body-of-spec =
@@ -63,12 +60,11 @@ body-of-spec =
     part-v-start
     part-v-end
     row-of-requires
-    shared-slice-read-length-said
-    shared-slice-read-length-said-2
-    length-said-requires
+    be16-at-requires
+    cast-said
     returns
     sub-if2
     returns-2
-    add-t20
+    add-t17
     returns-3
     returns-4)

@@ -1,13 +1,19 @@
--- A loop that puts one piece after the other: whatever writes the pieces that are left completes the whole.
-use Prim.Native.Nat.{ℕ, suc, _+_, _-_, _≤_, _<_}
-use mathlib.Core.Path.{_≡_, refl, _∙_}
+-- Pieces by their index: how long they are, and a loop that puts one after the other: whatever writes the pieces that are left completes the whole.
+use Prim.Native.Nat.{ℕ, zero, suc, _+_, _-_, _*_, _≤_, _<_}
+use mathlib.Core.Path.{_≡_, refl, sym, _∙_}
 use mathlib.Core.List.{List}
+use native.Mathlib.Nat.{zero-mul, suc-mul, add-comm}
 use native.Mathlib.Numerals.{add-one}
 use native.Mathlib.Omega.{arith}
-use lib.ListN.{length}
-use Rattle.text.specs.Put.{Put}
+use lib.ListN.{length, length-append}
+use Rattle.text.specs.Put.{Put, joinedAll}
 use Rattle.text.proofs.Laws.{nothing, seq}
-use Rattle.oracle_replay.specs.State.{joinedAll}
+
+-- pieces of one length
+pub joined-length : (g : ℕ → List ℕ) (k : ℕ) → ((i : ℕ) → length (g i) ≡ k) → (i n : ℕ) → length (joinedAll g i n) ≡ n * k
+unfolding joinedAll
+joined-length g k h i zero = sym (zero-mul k)
+joined-length g k h i (suc n) = length-append (g i) (joinedAll g (suc i) n) ∙ rw (h i, joined-length g k h (suc i) n) (add-comm k (n * k)) ∙ sym (suc-mul n k)
 
 -- n pieces in all, i of them written into `out`, up to w
 pub record Pieces (g : ℕ → List ℕ) (n : ℕ) (o₀ : List ℕ) (w₀ : ℕ) (out : List ℕ) (i w : ℕ) : Type 0 where
