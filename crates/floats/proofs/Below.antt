@@ -2,18 +2,17 @@
 use Prim.Native.Nat.{ℕ, _+_, _*_, _<_}
 use native.Mathlib.Omega.{arith}
 use mathlib.Core.Path.{_≡_, refl, sym, ap, _∙_}
-use mathlib.Core.Bool.{Bool, true, false, _||_, _&&_}
+use mathlib.Core.Bool.{Bool, true, false, _||_, _&&_, false≢true}
 use lib.Dec.{eqb}
 use lib.Ieee.{Float, nan, inf, fin, below, level, up, down, lt, le, eq}
 use borrow.Author.Tests.{ltb-true, le-ltb, ne-eqb, eqb-true}
-use Rattle.floats.proofs.Sat.{no}
 
 -- of two sizes with their signs
 below-not-above : (s t : Bool) (a b : ℕ) → below s a t b ≡ true → (below t b s a || level t b s a) ≡ false
 below-not-above false false a b h =
     let l : a < b = ltb-true _ _ h in
     ap (λ (x : Bool). x || (eqb b a && true)) (le-ltb b a (omega arith)) ∙ ap (λ (x : Bool). x && true) (ne-eqb b a (λ q. omega arith))
-below-not-above false true a b h = absurd (no h)
+below-not-above false true a b h = absurd (false≢true h)
 below-not-above true false a b h = go (eqb b a) refl
   where
     go : (t : Bool) → eqb b a ≡ t → (eqb b a && eqb b 0) ≡ false
@@ -28,15 +27,15 @@ below-not-above true true a b h =
 
 pub lt-not-le : (x y : Float) → lt x y ≡ true → le y x ≡ false
 unfolding lt le eq
-lt-not-le nan y h = absurd (no h)
-lt-not-le (inf s) nan h = absurd (no h)
-lt-not-le (inf true) (inf true) h = absurd (no h)
+lt-not-le nan y h = absurd (false≢true h)
+lt-not-le (inf s) nan h = absurd (false≢true h)
+lt-not-le (inf true) (inf true) h = absurd (false≢true h)
 lt-not-le (inf true) (inf false) h = refl
-lt-not-le (inf false) (inf t) h = absurd (no h)
+lt-not-le (inf false) (inf t) h = absurd (false≢true h)
 lt-not-le (inf true) (fin t n d) h = refl
-lt-not-le (inf false) (fin t n d) h = absurd (no h)
-lt-not-le (fin s m e) nan h = absurd (no h)
-lt-not-le (fin s m e) (inf true) h = absurd (no h)
+lt-not-le (inf false) (fin t n d) h = absurd (false≢true h)
+lt-not-le (fin s m e) nan h = absurd (false≢true h)
+lt-not-le (fin s m e) (inf true) h = absurd (false≢true h)
 lt-not-le (fin s m e) (inf false) h = refl
 lt-not-le (fin s m e) (fin t n d) h = below-not-above s t (m * up e * down d) (n * up d * down e) h
 
@@ -44,5 +43,5 @@ pub le-not-lt : (x y : Float) → le y x ≡ true → lt x y ≡ false
 le-not-lt x y h = go (lt x y) refl
   where
     go : (t : Bool) → lt x y ≡ t → t ≡ false
-    go true e = absurd (no (sym (lt-not-le x y e) ∙ h))
+    go true e = absurd (false≢true (sym (lt-not-le x y e) ∙ h))
     go false e = refl

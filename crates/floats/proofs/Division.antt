@@ -89,7 +89,7 @@ is-nan x p h = sym (ofBits-toBits binary64 x p) ∙ nan-above binary64 (toBits b
 is-infinite : (x : Float) → T (fits binary64 x) → size x ≡ 9218868437227405312 → x ≡ turned (sign x) (inf false)
 is-infinite x p h = by-size binary64 x p ∙ ap (λ (v : Float). turned (sign x) v) (ap (ofBits binary64) h ∙ inf-pattern binary64)
 
-zero-pattern : ofBits binary64 0 ≡ fin false 0 (pos 0)
+pub zero-pattern : ofBits binary64 0 ≡ fin false 0 (pos 0)
 unfolding ofBits
 zero-pattern = refl
 

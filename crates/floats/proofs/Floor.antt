@@ -3,7 +3,7 @@ use Prim.Native.Nat.{ℕ, suc, _+_, _-_, _*_, _/_, _^_, _≤_, _<_}
 use native.Mathlib.Nat.{le-trans, le-of-lt, lt-of-lt-of-le, lt-irrefl, mul-one, one-mul, le-of-suc-le-suc, suc-mul, div-le-self, le-mul-of-pos-right, div-lt-iff-lt-mul, div-add-mod', mod-lt, div-eq-of-lt-le, add-mul, zero-mul, mul-div-cancel}
 use native.Mathlib.Omega.{arith}
 use mathlib.Core.Path.{_≡_, refl, sym, ap, _∙_, subst}
-use mathlib.Core.Bool.{Bool, true, false, not}
+use mathlib.Core.Bool.{Bool, true, false, not, false≢true}
 use lib.IntN.{ℤ, pos, negsuc}
 use lib.Dec.{T, ltb, ltb→lt}
 use lib.Pow.{pow-pos, pow-mono}
@@ -13,13 +13,12 @@ use lib.Ieee.Fits.{down-pos, round-fits, fits-widens}
 use lib.Ieee.Back.{round-whole, whole-unique}
 use lib.Ieee.Scale.{round-same}
 use Rattle.floats.specs.Whole.{floor, ceil, cut, lift}
-use Rattle.floats.proofs.Sat.{no}
 use Rattle.floats.proofs.Values.{fine, own-round, neg-round}
 use Rattle.floats.proofs.Rounded.{round-number}
 use Rattle.floats.proofs.Order.{lt-values}
 
 -- ---- quotients
-up-one : (q d : ℕ) → (q + 1) * d ≡ q * d + d
+pub up-one : (q d : ℕ) → (q + 1) * d ≡ q * d + d
 up-one q d = add-mul q 1 d ∙ ap (λ (z : ℕ). q * d + z) (one-mul d)
 
 exact-lift : (a d q : ℕ) → 0 < d → a ≡ q * d → (a + (d - 1)) / d ≡ q
@@ -56,7 +55,7 @@ pub floor-large : (f : Format) (x : Float) → T (fits f x) → lt (fin false 0 
 unfolding lt floor
 floor-large f nan t h k = refl
 floor-large f (inf s) t h k = refl
-floor-large f (fin true m e) t h k = absurd (no h)
+floor-large f (fin true m e) t h k = absurd (false≢true h)
 floor-large f (fin false m e) t h k = floor-of-whole f false m e (m * up e) t (large f m e (fine f false m e t .few) (ltb-false _ _ k))
 
 pub floor-large-neg : (f : Format) (x : Float) → T (fits f x) → lt x (fin false 0 (pos 0)) ≡ true → lt (neg x) (fin false 1 (pos (prec f))) ≡ false → x ≡ floor f x
@@ -94,10 +93,10 @@ whole-is v w m e l h = omega (arith, whole-of v m e h, pow-mono l)
 
 pub floor-small : (f : Format) (v w : ℕ) (x : Float) → v ≤ w → lt (fin false 0 (pos 0)) x ≡ true → lt x (fin false 1 (pos v)) ≡ true → ofInt f (pos (toUnsigned w x)) ≡ floor f x
 unfolding lt floor ofInt
-floor-small f v w nan l h k = absurd (no h)
-floor-small f v w (inf true) l h k = absurd (no h)
-floor-small f v w (inf false) l h k = absurd (no k)
-floor-small f v w (fin true m e) l h k = absurd (no h)
+floor-small f v w nan l h k = absurd (false≢true h)
+floor-small f v w (inf true) l h k = absurd (false≢true h)
+floor-small f v w (inf false) l h k = absurd (false≢true k)
+floor-small f v w (fin true m e) l h k = absurd (false≢true h)
 floor-small f v w (fin false m e) l h k = ap (λ (z : ℕ). round f false z 1) (whole-is v w m e l k)
 
 -- ---- below 0: whether the whole part of the magnitude is below the magnitude
@@ -122,9 +121,9 @@ Below f w x t = lt (ofInt f (pos (toUnsigned w (neg x)))) (neg x) ≡ t
 pub floor-down : (f : Format) (w : ℕ) (x : Float) → prec f ≤ w → lt x (fin false 0 (pos 0)) ≡ true → lt (neg x) (fin false 1 (pos (prec f))) ≡ true → Below f w x true
     → neg (ofInt f (pos (toUnsigned w (neg x) + 1))) ≡ floor f x
 unfolding lt neg floor
-floor-down f w nan l h k b = absurd (no h)
-floor-down f w (inf true) l h k b = absurd (no k)
-floor-down f w (inf false) l h k b = absurd (no h)
+floor-down f w nan l h k b = absurd (false≢true h)
+floor-down f w (inf true) l h k b = absurd (false≢true k)
+floor-down f w (inf false) l h k b = absurd (false≢true h)
 floor-down f w (fin false m e) l h k b = absurd (not-neg m e h)
 floor-down f w (fin true m e) l h k b =
     let n : toUnsigned w (fin false m e) ≡ cut m e = whole-is (prec f) w m e l k in
@@ -136,9 +135,9 @@ floor-down f w (fin true m e) l h k b =
 pub floor-even : (f : Format) (w : ℕ) (x : Float) → prec f ≤ w → lt x (fin false 0 (pos 0)) ≡ true → lt (neg x) (fin false 1 (pos (prec f))) ≡ true → Below f w x false
     → neg (ofInt f (pos (toUnsigned w (neg x)))) ≡ floor f x
 unfolding lt neg floor
-floor-even f w nan l h k b = absurd (no h)
-floor-even f w (inf true) l h k b = absurd (no k)
-floor-even f w (inf false) l h k b = absurd (no h)
+floor-even f w nan l h k b = absurd (false≢true h)
+floor-even f w (inf true) l h k b = absurd (false≢true k)
+floor-even f w (inf false) l h k b = absurd (false≢true h)
 floor-even f w (fin false m e) l h k b = absurd (not-neg m e h)
 floor-even f w (fin true m e) l h k b =
     let n : toUnsigned w (fin false m e) ≡ cut m e = whole-is (prec f) w m e l k in

@@ -3,7 +3,7 @@ use Prim.Native.Nat.{ℕ, zero, suc, _+_, _-_, _*_, _/_, _%_, _^_, _≤_, _<_, m
 use native.Mathlib.Nat.{le-trans, le-of-eq, lt-of-lt-of-le, mul-one, mul-pos, mul-assoc, mul-le-mul-right, mul-lt-mul-of-pos-right, le-div-iff-mul-le, div-lt-iff-lt-mul, div-eq-of-lt, div-one, mul-le-mul-left, div-mul-le-self, div-le-self, mod-le, mod-eq-of-lt, mod-eq-sub-mod, mod-mod-of-dvd, dvd-mul-right}
 use native.Mathlib.Omega.{arith}
 use mathlib.Core.Path.{_≡_, refl, sym, ap, _∙_, subst}
-use mathlib.Core.Bool.{Bool, true, false, not, cond}
+use mathlib.Core.Bool.{Bool, true, false, not, cond, false≢true}
 use lib.Dec.{T, ltb, eqb, isLe, isEq, leb→le, nleb→lt, eqb→eq, eqb-refl, ltb→lt, lit<}
 use lib.Arith.{lt-of-le-ne}
 use lib.Pow.{pow-add, pow-pos, pow-mono, shl-exact}
@@ -16,9 +16,9 @@ use lib.Ieee.Exact.{HasValue, odd-sign}
 use lib.Ieee.Nearest.{closest, closest-same}
 use lib.Ieee.Scale.{round-same}
 use Rattle.floats.specs.Convert.{convert}
-use Rattle.floats.proofs.Sat.{no}
 use Rattle.floats.proofs.Values.{neg-round, neg-odd, neg-cond}
 use Rattle.floats.proofs.Pack.{packed, size-is}
+use Rattle.floats.proofs.Residues.{gathered}
 
 -- ---- the nearest whole number, by the three tests
 abbrev Cmp : Ordering → ℕ → ℕ → Type 0
@@ -127,21 +127,18 @@ scaled-closest n x l c k sh h =
     (mul-assoc (n * 2 ^ x) (2 ^ l) (2 ^ sh) ∙ mul-assoc n (2 ^ x) (2 ^ l * 2 ^ sh) ∙ ap (λ (z : ℕ). n * z)
     (ap (λ (z : ℕ). 2 ^ x * z) (sym (pow-add 2 l sh)) ∙ sym (pow-add 2 x (l + sh)) ∙ ap (λ (z : ℕ). 2 ^ z) (omega arith) ∙ pow-add 2 c k))
 
-gather : (n x l : ℕ) → n * 2 ^ x * 2 ^ l ≡ n * 2 ^ (x + l)
-gather n x l = mul-assoc n (2 ^ x) (2 ^ l) ∙ ap (λ (z : ℕ). n * z) (sym (pow-add 2 x l))
-
 -- n < 2 ^ d: n * 2 ^ (x + l) / 2 ^ c is below 2 ^ j where d + x + l is at most j + c
 shifted-lt : (n d x l c j : ℕ) → n < 2 ^ d → d + x + l ≤ j + c → n * 2 ^ x * 2 ^ l / 2 ^ c < 2 ^ j
 shifted-lt n d x l c j h g =
     div-lt-iff-lt-mul (pow-pos c) .1
-    (subst (λ (z : ℕ). z < 2 ^ j * 2 ^ c) (sym (gather n x l))
+    (subst (λ (z : ℕ). z < 2 ^ j * 2 ^ c) (sym (gathered n x l))
     (lt-of-lt-of-le (mul-lt-mul-of-pos-right h (pow-pos (x + l)))
     (le-trans (le-of-eq (sym (pow-add 2 d (x + l)))) (le-trans (pow-mono (omega arith)) (le-of-eq (pow-add 2 j c))))))
 
 shifted-ge : (n d x l c j : ℕ) → 2 ^ d ≤ n → j + c ≤ d + x + l → 2 ^ j ≤ n * 2 ^ x * 2 ^ l / 2 ^ c
 shifted-ge n d x l c j h g =
     le-div-iff-mul-le (pow-pos c) .1
-    (subst (λ (z : ℕ). 2 ^ j * 2 ^ c ≤ z) (sym (gather n x l))
+    (subst (λ (z : ℕ). 2 ^ j * 2 ^ c ≤ z) (sym (gathered n x l))
     (le-trans (le-of-eq (sym (pow-add 2 j c))) (le-trans (pow-mono (omega arith)) (le-trans (le-of-eq (pow-add 2 d (x + l))) (mul-le-mul-right (2 ^ (x + l)) h)))))
 
 -- ---- binary64's patterns at binary32
@@ -255,11 +252,11 @@ rounded-whole n j h a b =
 pub under-nan : (f : Format) (n : ℕ) → n % top f ≤ ones f * hid f → T (not (nanBits f n))
 under-nan f n h = subst (λ (b : Bool). T (not b)) (sym (nanBits-above f n ∙ le-ltb (ones f * hid f) (n % top f) h)) tt
 
-is-nan : (x : Float) → isNan x ≡ true → x ≡ nan
+pub is-nan : (x : Float) → isNan x ≡ true → x ≡ nan
 unfolding isNan
 is-nan nan h = refl
-is-nan (inf s) h = absurd (no h)
-is-nan (fin s m e) h = absurd (no h)
+is-nan (inf s) h = absurd (false≢true h)
+is-nan (fin s m e) h = absurd (false≢true h)
 
 pub nan-above : (f : Format) (n : ℕ) → ones f * hid f < n % top f → ofBits f n ≡ nan
 nan-above f n h = is-nan (ofBits f n) (sym (nanBits-is f n) ∙ nanBits-above f n ∙ lt-ltb (ones f * hid f) (n % top f) h)

@@ -3,7 +3,7 @@ use Prim.Native.Nat.{ℕ, zero, suc, _+_, _-_, _*_, _%_, _≤_, _<_}
 use native.Mathlib.Nat.{mul-pos, mul-assoc, mul-le-mul-right, zero-mul, mod-eq-sub-mod, mod-eq-of-lt}
 use native.Mathlib.Omega.{arith}
 use mathlib.Core.Path.{_≡_, refl, sym, ap, _∙_, subst}
-use mathlib.Core.Bool.{Bool, true, false, cond, _&&_, _||_}
+use mathlib.Core.Bool.{Bool, true, false, cond, _&&_, _||_, false≢true}
 use lib.IntN.{ℤ, pos}
 use lib.Dec.{T, ltb, eqb, ltb→lt, eqb→eq, eqb·suc-zero}
 use lib.Ieee.{Float, nan, inf, fin, Format, up, down, round, rem, sub, add, sum, neg, lt, le, eq, fits}
@@ -11,7 +11,6 @@ use lib.Ieee.Fits.{down-pos, and-l, and-r}
 use lib.Ieee.Order.{round-mono}
 use lib.Ieee.Scale.{round-same}
 use borrow.Author.Tests.{ltb-true, ltb-false, le-ltb}
-use Rattle.floats.proofs.Sat.{no}
 use Rattle.floats.proofs.Values.{own-round}
 
 or-l : (a b : Bool) → T (a || b) → (T a → ⊥) → T b
@@ -21,9 +20,9 @@ or-l false b h k = h
 -- below a number, and not below it
 crossed : (y : Float) (n : ℕ) (d : ℤ) → lt y (fin false n d) ≡ true → T (le (fin false n d) y) → ⊥
 unfolding lt le eq
-crossed nan n d h k = no h
+crossed nan n d h k = false≢true h
 crossed (inf true) n d h k = k
-crossed (inf false) n d h k = no h
+crossed (inf false) n d h k = false≢true h
 crossed (fin true m e) n d h k = go (m * up e * down d) (n * up d * down e) (ltb-true _ _ h) k
   where
     go : (a b : ℕ) → 0 < a + b → T (eqb b a && eqb b 0) → ⊥
@@ -68,16 +67,16 @@ once f m e (suc n) d q h k p = go (ltb (A - B) B) refl
 
 pub rem-once : (f : Format) (x m : Float) → T (fits f m) → le (fin false 0 (pos 0)) x ≡ true → lt x m ≡ false → lt (fin false 0 (pos 0)) m ≡ true → lt (sub f x m) m ≡ true → sub f x m ≡ rem f x m
 unfolding le lt eq sub add neg
-rem-once f nan m q z h o k = absurd (no z)
-rem-once f (inf true) m q z h o k = absurd (no z)
-rem-once f (inf false) nan q z h o k = absurd (no o)
-rem-once f (inf false) (inf true) q z h o k = absurd (no o)
-rem-once f (inf false) (inf false) q z h o k = absurd (no k)
-rem-once f (inf false) (fin t n d) q z h o k = absurd (no k)
-rem-once f (fin s m e) nan q z h o k = absurd (no o)
-rem-once f (fin s m e) (inf true) q z h o k = absurd (no o)
-rem-once f (fin s m e) (inf false) q z h o k = absurd (no (sym h))
-rem-once f (fin s m e) (fin true n d) q z h o k = absurd (no o)
+rem-once f nan m q z h o k = absurd (false≢true z)
+rem-once f (inf true) m q z h o k = absurd (false≢true z)
+rem-once f (inf false) nan q z h o k = absurd (false≢true o)
+rem-once f (inf false) (inf true) q z h o k = absurd (false≢true o)
+rem-once f (inf false) (inf false) q z h o k = absurd (false≢true k)
+rem-once f (inf false) (fin t n d) q z h o k = absurd (false≢true k)
+rem-once f (fin s m e) nan q z h o k = absurd (false≢true o)
+rem-once f (fin s m e) (inf true) q z h o k = absurd (false≢true o)
+rem-once f (fin s m e) (inf false) q z h o k = absurd (false≢true (sym h))
+rem-once f (fin s m e) (fin true n d) q z h o k = absurd (false≢true o)
 rem-once f (fin true m e) (fin false n d) q z h o k = absurd (let b : 0 < n * up d * down e = mul-pos (some n (up d) (down d) (ltb-true _ _ o)) (down-pos e) in let l : m * up e * down d + n * up d * down e ≤ 0 = ltb-false _ _ h in omega arith)
   where
     some : (n u d : ℕ) → 0 * 1 * d < n * u * 1 → 0 < n * u

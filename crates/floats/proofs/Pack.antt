@@ -31,10 +31,6 @@ twice binary32 = refl
 twice binary64 = refl
 
 -- ---- the pattern of q * 2 ^ k smallest values
-record Parts (f : Format) (k q : ℕ) : Type 0 where
-  most : q ≤ 2 ^ prec f
-  least : 0 < k → hid f ≤ q
-
 toBits-at : (f : Format) (v : Float) (n : ℕ) → HasValue v false n (2 ^ low f) → toBits f v ≡ (size n - prec f) * hid f + n / 2 ^ (size n - prec f)
 unfolding toBits
 toBits-at f nan n h = absurd h

@@ -3,7 +3,7 @@ use Prim.Native.Nat.{ℕ, zero, suc, _+_, _*_, _%_, _^_, _<_}
 use native.Mathlib.Nat.{mod-eq-of-lt, mul-pos, mul-comm, mul-right-comm, mul-assoc, zero-mul}
 use native.Mathlib.Omega.{arith}
 use mathlib.Core.Path.{_≡_, refl, sym, ap, _∙_, subst}
-use mathlib.Core.Bool.{Bool, true, false, cond}
+use mathlib.Core.Bool.{Bool, true, false, cond, false≢true}
 use lib.IntN.{ℤ, pos}
 use lib.Dec.{T, eqb, eqb→eq, eqb·suc-zero}
 use lib.Ieee.{Float, nan, inf, fin, Format, up, down, round, rem, lt, le, eq, below, fits}
@@ -13,7 +13,6 @@ use lib.Ieee.Exact.{HasValue}
 use lib.Ieee.Positive.{first-pos}
 use lib.Ieee.Scale.{round-same}
 use borrow.Author.Tests.{ltb-true}
-use Rattle.floats.proofs.Sat.{no}
 use Rattle.floats.proofs.Values.{own-round}
 use Rattle.floats.proofs.Residues.{mod-scaled}
 
@@ -63,13 +62,13 @@ rem-counts f (fin u m e) (fin z (suc n) d) s t a b l B L v w =
 pub rem-inside : (f : Format) (x m : Float) → T (fits f x) → le (fin false 0 (pos 0)) x ≡ true → lt x m ≡ true → x ≡ rem f x m
 unfolding le lt eq rem
 rem-inside f nan m p h k = refl
-rem-inside f (inf true) m p h k = absurd (no h)
-rem-inside f (inf false) nan p h k = absurd (no k)
-rem-inside f (inf false) (inf t) p h k = absurd (no k)
-rem-inside f (inf false) (fin t n d) p h k = absurd (no k)
-rem-inside f (fin s m e) nan p h k = absurd (no k)
+rem-inside f (inf true) m p h k = absurd (false≢true h)
+rem-inside f (inf false) nan p h k = absurd (false≢true k)
+rem-inside f (inf false) (inf t) p h k = absurd (false≢true k)
+rem-inside f (inf false) (fin t n d) p h k = absurd (false≢true k)
+rem-inside f (fin s m e) nan p h k = absurd (false≢true k)
 rem-inside f (fin s m e) (inf t) p h k = refl
-rem-inside f (fin false m e) (fin true n d) p h k = absurd (no k)
+rem-inside f (fin false m e) (fin true n d) p h k = absurd (false≢true k)
 rem-inside f (fin false m e) (fin false n d) p h k = less f false m e false n d p (ltb-true _ _ k)
 rem-inside f (fin true m e) (fin t n d) p h k = less f true m e t n d p (zero-less t (m * up e) (down e) (down d) (n * up d * down e) (eqb→eq _ _ (and-l (eqb (0 * 2 ^ 0 * down e) (m * up e * 1)) _ (passes _ h))) k)
   where

@@ -3,20 +3,19 @@ use Prim.Native.Nat.{zero, suc, _*_}
 use native.Mathlib.Nat.{mul-pos, zero-mul}
 use native.Mathlib.Omega.{arith}
 use mathlib.Core.Path.{_≡_, refl}
-use mathlib.Core.Bool.{true, false, not}
+use mathlib.Core.Bool.{true, false, not, false≢true}
 use lib.Dec.{T, ltb→lt, lt→ltb, eqb·suc-zero}
 use lib.Ieee.{Float, nan, inf, fin, Format, up, down, mul, div, unlike, lt, isNan}
 use lib.Ieee.Fits.{up-pos}
 use lib.Ieee.Scale.{finite}
 use lib.Ieee.Positive.{positive}
-use Rattle.floats.proofs.Sat.{no}
 use Rattle.floats.proofs.Rounded.{round-number}
 use Rattle.floats_laws.proofs.Rising.{nought}
 
 -- ---- a test `<` that passed
 pub lt-left-number : (x y : Float) → lt x y ≡ true → isNan x ≡ false
 unfolding lt isNan
-lt-left-number nan y h = absurd (no h)
+lt-left-number nan y h = absurd (false≢true h)
 lt-left-number (inf s) y h = refl
 lt-left-number (fin s m e) y h = refl
 
@@ -24,11 +23,11 @@ pub inside-finite : (a x b : Float) → T (finite a) → T (finite b) → lt a x
 unfolding lt
 inside-finite nan x b u v h k = absurd u
 inside-finite (inf s) x b u v h k = absurd u
-inside-finite (fin s m e) nan b u v h k = absurd (no h)
-inside-finite (fin s m e) (inf true) b u v h k = absurd (no h)
+inside-finite (fin s m e) nan b u v h k = absurd (false≢true h)
+inside-finite (fin s m e) (inf true) b u v h k = absurd (false≢true h)
 inside-finite (fin s m e) (inf false) nan u v h k = absurd v
 inside-finite (fin s m e) (inf false) (inf t) u v h k = absurd v
-inside-finite (fin s m e) (inf false) (fin t n d) u v h k = absurd (no k)
+inside-finite (fin s m e) (inf false) (fin t n d) u v h k = absurd (false≢true k)
 inside-finite (fin s m e) (fin t n d) b u v h k = tt
 
 -- ---- a positive number, by tests

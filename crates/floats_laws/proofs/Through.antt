@@ -3,14 +3,13 @@ use Prim.Native.Nat.{ℕ, _+_, _*_, _<_, _≤_}
 use native.Mathlib.Nat.{mul-comm, mul-assoc, mul-left-comm, mul-le-mul-right, mul-lt-mul-of-pos-right, lt-of-mul-lt-mul-right, add-mul, zero-mul}
 use native.Mathlib.Omega.{arith}
 use mathlib.Core.Path.{_≡_, refl}
-use mathlib.Core.Bool.{Bool, true, false}
+use mathlib.Core.Bool.{Bool, true, false, false≢true}
 use borrow.Author.Tests.{ltb-true, lt-ltb}
 use lib.IntN.{ℤ}
 use lib.Dec.{T}
 use lib.Ieee.{Float, nan, inf, fin, up, down, lt, le, eq}
 use lib.Ieee.Fits.{down-pos}
 use Rattle.floats_laws.proofs.Mono.{plus, minus, le→signed}
-use Rattle.floats.proofs.Sat.{no}
 
 module _ (m : ℕ) (e : ℤ) (n : ℕ) (d : ℤ) where
   abbrev left : ℕ
@@ -22,7 +21,7 @@ module _ (m : ℕ) (e : ℤ) (n : ℕ) (d : ℤ) where
   lt→signed : (s t : Bool) → lt (fin s m e) (fin t n d) ≡ true → plus s (m * up e) * down d + minus t (n * up d) * down e < plus t (n * up d) * down e + minus s (m * up e) * down d
   unfolding lt
   lt→signed false false h = omega (arith, zero-mul (down e), zero-mul (down d), ltb-true left right h)
-  lt→signed false true h = absurd (no h)
+  lt→signed false true h = absurd (false≢true h)
   lt→signed true false h = omega (arith, zero-mul (down e), zero-mul (down d), ltb-true 0 (left + right) h)
   lt→signed true true h = omega (arith, zero-mul (down e), zero-mul (down d), ltb-true right left h)
 
@@ -54,10 +53,10 @@ unfolding le lt eq
 le-lt nan y z h k = absurd h
 le-lt (inf true) nan z h k = absurd h
 le-lt (inf true) (inf true) z h k = k
-le-lt (inf true) (inf false) nan h k = absurd (no k)
-le-lt (inf true) (inf false) (inf t) h k = absurd (no k)
+le-lt (inf true) (inf false) nan h k = absurd (false≢true k)
+le-lt (inf true) (inf false) (inf t) h k = absurd (false≢true k)
 le-lt (inf true) (inf false) (fin t n d) h k = refl
-le-lt (inf true) (fin t n d) nan h k = absurd (no k)
+le-lt (inf true) (fin t n d) nan h k = absurd (false≢true k)
 le-lt (inf true) (fin t n d) (inf w) h k = k
 le-lt (inf true) (fin t n d) (fin w l g) h k = refl
 le-lt (inf false) nan z h k = absurd h
@@ -66,10 +65,10 @@ le-lt (inf false) (inf false) z h k = k
 le-lt (inf false) (fin t n d) z h k = absurd h
 le-lt (fin s m e) nan z h k = absurd h
 le-lt (fin s m e) (inf true) z h k = absurd h
-le-lt (fin s m e) (inf false) nan h k = absurd (no k)
-le-lt (fin s m e) (inf false) (inf t) h k = absurd (no k)
-le-lt (fin s m e) (inf false) (fin t n d) h k = absurd (no k)
-le-lt (fin s m e) (fin t n d) nan h k = absurd (no k)
+le-lt (fin s m e) (inf false) nan h k = absurd (false≢true k)
+le-lt (fin s m e) (inf false) (inf t) h k = absurd (false≢true k)
+le-lt (fin s m e) (inf false) (fin t n d) h k = absurd (false≢true k)
+le-lt (fin s m e) (fin t n d) nan h k = absurd (false≢true k)
 le-lt (fin s m e) (fin t n d) (inf w) h k = k
 le-lt (fin s m e) (fin t n d) (fin w l g) h k =
     signed→lt m e l g s w
@@ -78,9 +77,9 @@ le-lt (fin s m e) (fin t n d) (fin w l g) h k =
 
 pub lt-le : (x y z : Float) → lt x y ≡ true → T (le y z) → lt x z ≡ true
 unfolding le lt eq
-lt-le nan y z h k = absurd (no h)
-lt-le (inf true) nan z h k = absurd (no h)
-lt-le (inf true) (inf true) z h k = absurd (no h)
+lt-le nan y z h k = absurd (false≢true h)
+lt-le (inf true) nan z h k = absurd (false≢true h)
+lt-le (inf true) (inf true) z h k = absurd (false≢true h)
 lt-le (inf true) (inf false) nan h k = absurd k
 lt-le (inf true) (inf false) (inf true) h k = absurd k
 lt-le (inf true) (inf false) (inf false) h k = refl
@@ -89,11 +88,11 @@ lt-le (inf true) (fin t n d) nan h k = absurd k
 lt-le (inf true) (fin t n d) (inf true) h k = absurd k
 lt-le (inf true) (fin t n d) (inf false) h k = refl
 lt-le (inf true) (fin t n d) (fin w l g) h k = refl
-lt-le (inf false) nan z h k = absurd (no h)
-lt-le (inf false) (inf t) z h k = absurd (no h)
-lt-le (inf false) (fin t n d) z h k = absurd (no h)
-lt-le (fin s m e) nan z h k = absurd (no h)
-lt-le (fin s m e) (inf true) z h k = absurd (no h)
+lt-le (inf false) nan z h k = absurd (false≢true h)
+lt-le (inf false) (inf t) z h k = absurd (false≢true h)
+lt-le (inf false) (fin t n d) z h k = absurd (false≢true h)
+lt-le (fin s m e) nan z h k = absurd (false≢true h)
+lt-le (fin s m e) (inf true) z h k = absurd (false≢true h)
 lt-le (fin s m e) (inf false) nan h k = absurd k
 lt-le (fin s m e) (inf false) (inf true) h k = absurd k
 lt-le (fin s m e) (inf false) (inf false) h k = refl

@@ -1,14 +1,13 @@
 -- Turns one after the other: where they end, how they go on, and what they come to for one field and for a whole script.
 use Prim.Native.Nat.{ℕ, zero, suc, _+_, _-_, _≤_, _<_, _^_}
 use mathlib.Core.Path.{_≡_, refl, sym, ap, _∙_}
-use mathlib.Core.Bool.{true, false}
+use mathlib.Core.Bool.{true, false, false≢true}
 use mathlib.Core.List.{List}
 use native.Mathlib.Omega.{arith}
 use lib.ListN.{length, drop}
 use lib.Dec.{eqb}
 use lib.Seq.{drop-drop}
 use borrow.Author.Tests.{eq-eqb, ne-eqb, eqb-true, eqb-false}
-use Rattle.floats.proofs.Sat.{no}
 use Rattle.sequences.specs.Pick.{pick, picked, passed, by-case, took, skipped}
 use Rattle.floats.specs.Word.{grown}
 use Rattle.script_steps.specs.declared.Run.{Run}
@@ -26,7 +25,7 @@ use Rattle.listing.proofs.TurnLaws.{taken-left}
 -- ---- the test
 pub on-takes : (u : Until) (line : Line) (k : ℕ) → goesOn u line k ≡ true → k ≡ 0 → ⊥
 unfolding goesOn
-on-takes u line k h z = no (picked (eqb k 0) false (passesBy u line) (eq-eqb k 0 z) ∙ h)
+on-takes u line k h z = false≢true (picked (eqb k 0) false (passesBy u line) (eq-eqb k 0 z) ∙ h)
 
 pub none-ends : (u : Until) (line : Line) → goesOn u line 0 ≡ false
 unfolding goesOn pick

@@ -1,14 +1,13 @@
 -- Turns that print nothing add nothing to the text: up to the next line it is what is left from there.
 use Prim.Native.Nat.{ℕ, zero, suc, _+_, _-_, _≤_, _<_, _^_}
 use mathlib.Core.Path.{_≡_, refl, sym, ap, _∙_, subst}
-use mathlib.Core.Bool.{true, false}
+use mathlib.Core.Bool.{true, false, false≢true}
 use mathlib.Core.List.{List, [], _++_}
 use native.Mathlib.Omega.{arith}
 use lib.Dec.{eqb}
 use lib.ListN.{length, drop, length-drop}
 use lib.Seq.{drop-drop}
 use borrow.Author.Tests.{ne-eqb}
-use Rattle.floats.proofs.Sat.{no}
 use Rattle.sequences.specs.Pick.{picked, passed, by-case}
 use Rattle.floats.specs.Word.{grown}
 use Rattle.text.specs.Put.{Put}
@@ -28,10 +27,10 @@ use Rattle.listing.proofs.Laws.{more, Goes}
 -- ---- a line that prints nothing
 no-text : (line : Line) → isSilent line ≡ true → textOf line ≡ []
 no-text L.Nothing h = refl
-no-text (L.Frame n v) h = absurd (no h)
-no-text (L.Refused n r) h = absurd (no h)
-no-text (L.Bad n r) h = absurd (no h)
-no-text (L.End n) h = absurd (no h)
+no-text (L.Frame n v) h = absurd (false≢true h)
+no-text (L.Refused n r) h = absurd (false≢true h)
+no-text (L.Bad n r) h = absurd (false≢true h)
+no-text (L.End n) h = absurd (false≢true h)
 
 on-silent : (line : Line) (k : ℕ) → goesOn U.Line line k ≡ true → isSilent line ≡ true
 unfolding goesOn

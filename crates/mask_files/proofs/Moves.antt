@@ -1,12 +1,11 @@
 -- Each record moves a walk on, so that a walk ends.
 use Prim.Native.Nat.{ℕ, _-_, _≤_, _<_}
 use mathlib.Core.Path.{_≡_, refl, sym, ap, _∙_, subst}
-use mathlib.Core.Bool.{Bool, true, false}
+use mathlib.Core.Bool.{Bool, true, false, false≢true}
 use mathlib.Core.List.{List, []}
 use native.Mathlib.Omega.{arith}
 use lib.Ieee.{Float, nan}
 use lib.ListN.{length, drop}
-use Rattle.floats.proofs.Sat.{no}
 use Rattle.listing.specs.declared.lines.Line.{Line}
 use Rattle.listing.specs.declared.lines.Line.the-variants as L
 use Rattle.listing.specs.declared.turns.Reached.{Reached}
@@ -31,7 +30,7 @@ is-record (M.Last l) = false
 
 last-not : (l : Line) (after : ℕ) → M.Last l ≡ M.Record after → ⊥
 unfolding is-record
-last-not l after e = no (ap is-record e)
+last-not l after e = false≢true (ap is-record e)
 
 module _ (walk : Walk) (script : List ℕ) (inside : walk .at ≤ length script) (depth : Float) (logs scratch : List Float) (out : List ℕ) (at after : ℕ) where
   r : Reached

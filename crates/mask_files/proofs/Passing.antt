@@ -1,7 +1,7 @@
 -- Fields without a frame add no record: up to the next frame, or to the script's last line, the file is what is left from there.
 use Prim.Native.Nat.{ℕ, zero, suc, _+_, _-_, _≤_, _<_, _^_}
 use mathlib.Core.Path.{_≡_, refl, sym, ap, _∙_, subst}
-use mathlib.Core.Bool.{Bool, true, false}
+use mathlib.Core.Bool.{Bool, true, false, false≢true}
 use mathlib.Core.List.{List, []}
 use native.Mathlib.Omega.{arith}
 use lib.Dec.{eqb}
@@ -9,7 +9,6 @@ use lib.Ieee.{Float}
 use lib.ListN.{length, drop}
 use lib.Seq.{drop-drop}
 use borrow.Author.Tests.{eq-eqb, ne-eqb, eqb-true}
-use Rattle.floats.proofs.Sat.{no}
 use Rattle.sequences.specs.Pick.{picked, passed, by-case}
 use Rattle.refusals.specs.declared.Answer.{Answer}
 use Rattle.refusals.specs.declared.Answer.the-variants.{Taken}
@@ -46,7 +45,7 @@ frame-ends n line k h = by-case (eqb k 0) (λ y. sym (picked (eqb k 0) false (is
 -- a line that stops the walk and is no frame's takes no byte
 pub last-takes-none : (line : Line) (k : ℕ) → goesOn U.Frame line k ≡ false → isFrameless line ≡ true → k ≡ 0
 unfolding goesOn
-last-takes-none line k h y = by-case (eqb k 0) (λ z. eqb-true k 0 z) (λ z. absurd (no (sym h ∙ sym (passed (eqb k 0) false (isFrameless line) z) ∙ y)))
+last-takes-none line k h y = by-case (eqb k 0) (λ z. eqb-true k 0 z) (λ z. absurd (false≢true (sym h ∙ sym (passed (eqb k 0) false (isFrameless line) z) ∙ y)))
 
 -- a frame's field takes bytes
 refusal-frame : (b : Bool) (run : Run) (n k : ℕ) (r : Refusal) → isFrameless (refusalOf b run n k r .line) ≡ true
@@ -54,14 +53,14 @@ refusal-frame true run n k r = refl
 refusal-frame false run n k r = refl
 
 reply-frame : (n k : ℕ) (run : Run) (a : Reply) → isFrameless (repliedOf n k run a .line) ≡ false → repliedOf n k run a .taken ≡ k
-reply-frame n k run R.Quiet h = absurd (no (sym h))
-reply-frame n k run (R.Refused r) h = absurd (no (sym h ∙ refusal-frame (eqb n 1) run n k r))
+reply-frame n k run R.Quiet h = absurd (false≢true (sym h))
+reply-frame n k run (R.Refused r) h = absurd (false≢true (sym h ∙ refusal-frame (eqb n 1) run n k r))
 reply-frame n k run (R.Framed v) h = refl
 
 read-frame : (run : Run) (n : ℕ) (r : Read) (m : ℕ) → Read-takes.Taken r m → isFrameless (afterOf run n r .line) ≡ false → afterOf run n r .taken ≡ 0 → ⊥
 read-frame run n (S.Field f k) m (Read-takes.field lo hi) h z = let e = reply-frame n k (stepOf run f .run) (stepOf run f .reply) h in omega arith
-read-frame run n (S.Bad r) m Read-takes.bad h z = no (sym h)
-read-frame run n S.End m Read-takes.end h z = no (sym h)
+read-frame run n (S.Bad r) m Read-takes.bad h z = false≢true (sym h)
+read-frame run n S.End m Read-takes.end h z = false≢true (sym h)
 
 pub frame-takes : (run : Run) (n : ℕ) (s : List ℕ) → isFrameless (turnOf run n s .line) ≡ false → turnOf run n s .taken ≡ 0 → ⊥
 unfolding turnOf
@@ -72,17 +71,17 @@ module _ (depth : Float) (logs : List Float) where
   module _ (f : Frame) (rest : List ℕ × Answer) where
     refusal-adds : (b : Bool) (run : Run) (n k : ℕ) (r : Refusal) → goesOn U.Frame (refusalOf b run n k r .line) (refusalOf b run n k r .taken) ≡ true
         → filedBy depth logs f (refusalOf b run n k r .line) rest ≡ rest
-    refusal-adds true run n k r h = absurd (no (sym (none-ends U.Frame (L.Bad n r)) ∙ h))
+    refusal-adds true run n k r h = absurd (false≢true (sym (none-ends U.Frame (L.Bad n r)) ∙ h))
     refusal-adds false run n k r h = refl
 
     reply-adds : (n k : ℕ) (run : Run) (a : Reply) → goesOn U.Frame (repliedOf n k run a .line) (repliedOf n k run a .taken) ≡ true → filedBy depth logs f (repliedOf n k run a .line) rest ≡ rest
     reply-adds n k run R.Quiet h = refl
     reply-adds n k run (R.Refused r) h = refusal-adds (eqb n 1) run n k r h
-    reply-adds n k run (R.Framed v) h = absurd (no (sym (frame-ends n (L.Frame n v) k refl) ∙ h))
+    reply-adds n k run (R.Framed v) h = absurd (false≢true (sym (frame-ends n (L.Frame n v) k refl) ∙ h))
 
     read-adds : (run : Run) (n : ℕ) (r : Read) → goesOn U.Frame (afterOf run n r .line) (afterOf run n r .taken) ≡ true → filedBy depth logs f (afterOf run n r .line) rest ≡ rest
     read-adds run n (S.Field x k) h = reply-adds n k (stepOf run x .run) (stepOf run x .reply) h
-    read-adds run n (S.Bad r) h = absurd (no (sym (none-ends U.Frame (L.Bad n r)) ∙ h))
+    read-adds run n (S.Bad r) h = absurd (false≢true (sym (none-ends U.Frame (L.Bad n r)) ∙ h))
     read-adds run n S.End h = refl
 
     adds-nothing : (run : Run) (n : ℕ) (s : List ℕ) → goesOn U.Frame (turnOf run n s .line) (turnOf run n s .taken) ≡ true → filedBy depth logs f (turnOf run n s .line) rest ≡ rest

@@ -1,10 +1,9 @@
 -- A script that is read to its end has the record of each accepted frame, one behind the other.
 use mathlib.Core.Path.{_≡_, refl, sym, ap, _∙_}
-use mathlib.Core.Bool.{Bool, true, false}
+use mathlib.Core.Bool.{Bool, true, false, false≢true}
 use mathlib.Core.List.{List, [], _∷_, _++_}
 use Prim.Native.Nat.{ℕ}
 use lib.Ieee.{Float}
-use Rattle.floats.proofs.Sat.{no}
 use Rattle.sequences.specs.Pick.{by-case, picked, passed}
 use Rattle.refusals.specs.declared.Answer.{Answer}
 use Rattle.refusals.specs.declared.Answer.the-variants.{Taken, Refused}
@@ -25,7 +24,7 @@ is-taken (Refused k) = false
 
 pub refused-not : (k : Refusal) → Refused k ≡ Taken → ⊥
 unfolding is-taken
-refused-not k e = no (ap is-taken e)
+refused-not k e = false≢true (ap is-taken e)
 
 module _ (depth : Float) (logs : List Float) where
   by-line : (f : Frame) (l : Line) (rest : List ℕ × Answer) (rs : List Record) → (rest .1 ≡ Taken → rest .0 ≡ fileOf rs)

@@ -1,7 +1,7 @@
 -- What a step of a walk tells of the file that is left.
 use Prim.Native.Nat.{ℕ, suc, _+_, _-_, _≤_, _<_, _^_}
 use mathlib.Core.Path.{_≡_, refl, sym, ap, _∙_, subst}
-use mathlib.Core.Bool.{true, false}
+use mathlib.Core.Bool.{true, false, false≢true}
 use mathlib.Core.List.{List, [], _++_}
 use native.Mathlib.Omega.{arith}
 use lib.Dec.{leb}
@@ -9,7 +9,6 @@ use lib.Ieee.{Float, nan}
 use lib.ListN.{length, drop, length-drop, length-append}
 use lib.Seq.{drop-drop}
 use borrow.Author.Tests.{eq-eqb, le-ltb, le-leb, leb-true, leb-false}
-use Rattle.floats.proofs.Sat.{no}
 use Rattle.sequences.specs.Pick.{pick, by-case, picked, passed, took, skipped}
 use Rattle.text.specs.Put.{splice}
 use Rattle.refusals.specs.declared.Answer.{Answer}
@@ -248,7 +247,7 @@ module _ (depth : Float) (logs : List Float) (script : List ℕ) (top : length s
 
     filed-last : (l : Line) → isFrameless l ≡ true → (f : Frame) → filedBy depth logs f l ([], Taken) ≡ ([], badOf l)
     filed-last L.Nothing h f = refl
-    filed-last (L.Frame n v) h f = absurd (no h)
+    filed-last (L.Frame n v) h f = absurd (false≢true h)
     filed-last (L.Refused n k) h f = refl
     filed-last (L.Bad n k) h f = refl
     filed-last (L.End n) h f = refl

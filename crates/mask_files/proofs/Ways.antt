@@ -1,13 +1,12 @@
 -- The ways through `next_record`: what it answers is `walkStep`.
 use Prim.Native.Nat.{ℕ, _+_, _-_, _≤_}
 use mathlib.Core.Path.{_≡_, refl, sym, ap, _∙_}
-use mathlib.Core.Bool.{true}
+use mathlib.Core.Bool.{true, false≢true}
 use mathlib.Core.List.{List}
 use native.Mathlib.Omega.{arith}
 use lib.Ieee.{Float}
 use lib.ListN.{length, drop}
 use lib.Seq.{drop-length, drop-nil, drop-drop}
-use Rattle.floats.proofs.Sat.{no}
 use Rattle.script_steps.specs.declared.values.Values.{Values}
 use Rattle.listing.specs.declared.lines.Line.{Line}
 use Rattle.listing.specs.declared.lines.Line.the-variants as L
@@ -45,7 +44,7 @@ module _ (walk : Walk) (script : List ℕ) (depth : Float) (logs scratch : List 
 
     last-by : (l : Line) → isFrameless l ≡ true → (walkStepped (walkAfter walk r) (M.Last l), scratch, out) ≡ stepBy (walkAfter walk r) (r .turn .run .frame) l depth logs scratch out at
     last-by L.Nothing h = refl
-    last-by (L.Frame n v) h = absurd (no h)
+    last-by (L.Frame n v) h = absurd (false≢true h)
     last-by (L.Refused n k) h = refl
     last-by (L.Bad n k) h = refl
     last-by (L.End n) h = refl

@@ -1,11 +1,10 @@
 -- The cases of `gainsOf`: refusal 6 comes before the rule of depth and activity, wherever it is asked.
 use mathlib.Core.Path.{_≡_, refl, sym, ap, _∙_}
-use mathlib.Core.Bool.{Bool, true, false, _||_}
+use mathlib.Core.Bool.{Bool, true, false, _||_, false≢true}
 use mathlib.Core.List.{List}
 use borrow.Author.Tests.{eq-eqb}
 use lib.ListN.{length}
 use lib.Ieee.{Float, le, eq}
-use Rattle.floats.proofs.Sat.{no}
 use Rattle.sequences.specs.Pick.{pick, took}
 use Rattle.floats.specs.Names.{zero32}
 use Rattle.windows.specs.declared.Frame.{Frame}
@@ -28,14 +27,14 @@ module _ {A : Type 0} (s x r : A) where
   quiet-pick false d a e = refl
   quiet-pick true true a e = refl
   quiet-pick true false true e = refl
-  quiet-pick true false false e = absurd (no e)
+  quiet-pick true false false e = absurd (false≢true e)
 
   loud-pick : (l d a : Bool) → d || a ≡ false → pick l x r ≡ pick l (pick d s (pick a s x)) r
   unfolding pick
   loud-pick false d a e = refl
   loud-pick true false false e = refl
-  loud-pick true false true e = absurd (no (sym e))
-  loud-pick true true a e = absurd (no (sym e))
+  loud-pick true false true e = absurd (false≢true (sym e))
+  loud-pick true true a e = absurd (false≢true (sym e))
 
 module _ (f : Frame) (depth : Float) (logs scratch output : List Float) (m : length output ≡ length scratch) (n : length output ≡ length logs) where
   pub quiet-gains : (r : Answer) (ys : List Float) → quietOf depth (f .activity) ≡ true → (r, ys) ≡ onesOf logs output → (r, scratch, ys) ≡ gainsOf f depth logs scratch output

@@ -1,9 +1,8 @@
 -- A search by halves among bins 1 up finds the first that fails.
 use mathlib.Core.Path.{_≡_, refl, sym, _∙_}
-use mathlib.Core.Bool.{Bool, true, false, cond}
+use mathlib.Core.Bool.{Bool, true, false, cond, false≢true}
 use Prim.Native.Nat.{ℕ, _+_, _-_, _/_, _≤_, _<_}
 use native.Mathlib.Omega.{arith}
-use Rattle.floats.proofs.Sat.{no}
 use Rattle.mask_gains.specs.Search.{Falls, First}
 
 -- the invariant: what lies below base passes, and what lies from base + size on fails
@@ -37,7 +36,7 @@ module _ (P : ℕ → Bool) (n : ℕ) where
         some = omega (arith, h .some);
         high = omega (arith, h .high);
         before = λ i a b. h .before i a (omega arith);
-        after = λ i a b. not-true (P i) (λ w. no (sym p ∙ m (base + half) i (omega (arith, h .low)) (omega arith) b w));
+        after = λ i a b. not-true (P i) (λ w. false≢true (sym p ∙ m (base + half) i (omega (arith, h .low)) (omega arith) b w));
       }
 
   pub halves-all : (base size r : ℕ) (t : Bool) → Halves P n base size → size ≤ 1 → P base ≡ t → r ≡ base + cond t 1 0 → Falls P n → First P n r
@@ -53,5 +52,5 @@ module _ (P : ℕ → Bool) (n : ℕ) where
         low = omega (arith, h .low);
         high = omega (arith, h .high, h .some);
         before = λ i a b. h .before i a (omega arith);
-        after = λ i a b. not-true (P i) (λ w. no (sym p ∙ m base i (h .low) (omega arith) b w));
+        after = λ i a b. not-true (P i) (λ w. false≢true (sym p ∙ m base i (h .low) (omega arith) b w));
       }

@@ -1,11 +1,10 @@
 -- The gains from the openness of the bins, by what `open_bins` answered.
 use mathlib.Core.Path.{_≡_, sym, ap, _∙_}
-use mathlib.Core.Bool.{Bool, true, false}
+use mathlib.Core.Bool.{Bool, true, false, false≢true}
 use mathlib.Core.List.{List}
 use borrow.Author.Tests.{eq-eqb}
 use lib.ListN.{length, getD}
 use lib.Ieee.{Float, nan}
-use Rattle.floats.proofs.Sat.{no}
 use Rattle.sequences.specs.Pick.{pick, picked}
 use Rattle.sequences.specs.Table.{table, table-over}
 use Rattle.windows.specs.declared.Window.{Window}
@@ -23,7 +22,7 @@ is-taken (Refused k) = false
 
 apart : (k : Refusal) → Taken ≡ Refused k → ⊥
 unfolding is-taken
-apart k e = no (sym (ap is-taken e))
+apart k e = false≢true (sym (ap is-taken e))
 
 abbrev One : Type 0
 One = Answer × List Float

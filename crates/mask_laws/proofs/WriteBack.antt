@@ -2,14 +2,13 @@
 use Prim.Native.Nat.{ℕ, _+_, _*_, _/_, _%_, _≤_, _<_}
 use native.Mathlib.Omega.{arith}
 use mathlib.Core.Path.{_≡_, refl, sym, ap, _∙_, subst}
-use mathlib.Core.Bool.{Bool, true, false, _&&_}
+use mathlib.Core.Bool.{Bool, true, false, _&&_, false≢true}
 use mathlib.Core.List.{List, _∷_, _++_}
 use borrow.Author.Tests.{eqb-true, eqb-false, leb-true}
 use lib.Dec.{T, eqb, leb, eqb→eq, leb→le}
 use lib.Ieee.Fits.{and-l, and-r}
 use lib.ListN.{length, getD, take, drop, length-drop}
 use lib.Seq.{ext-getD, length-take-le, getD-take, getD-drop, take-add, take-at}
-use Rattle.floats.proofs.Sat.{no}
 use Rattle.sequences.specs.All.{all}
 use Rattle.sequences.specs.Pick.{pick, by-case, went-left, went-right}
 use Rattle.sequences.specs.Every.{Every, every-getD}
@@ -150,13 +149,13 @@ found-in s lent v n k q =
     let x3 : Handed = pick (all (λ i. isEntry (entryIn s i)) c) x4 (Refused Record, lent) in
     let x2 : Handed = pick (headed s) x3 (Refused Record, lent) in
     let e1 : is-found (recordRead s lent .0) ≡ true = ap is-found q in
-    let a1 = went-right IsFound (End, lent) x2 (eqb (length s) 0) no e1 in
+    let a1 = went-right IsFound (End, lent) x2 (eqb (length s) 0) false≢true e1 in
     let e2 : is-found (x2 .0) ≡ true = ap (λ (x : Handed). is-found (x .0)) (sym (a1 .1)) ∙ e1 in
-    let a2 = went-left IsFound x3 (Refused Record, lent) (headed s) no e2 in
+    let a2 = went-left IsFound x3 (Refused Record, lent) (headed s) false≢true e2 in
     let e3 : is-found (x3 .0) ≡ true = ap (λ (x : Handed). is-found (x .0)) (sym (a2 .1)) ∙ e2 in
-    let a3 = went-left IsFound x4 (Refused Record, lent) (all (λ i. isEntry (entryIn s i)) c) no e3 in
+    let a3 = went-left IsFound x4 (Refused Record, lent) (all (λ i. isEntry (entryIn s i)) c) false≢true e3 in
     let e4 : is-found (x4 .0) ≡ true = ap (λ (x : Handed). is-found (x .0)) (sym (a3 .1)) ∙ e3 in
-    let a4 = went-left IsFound done (Refused Room, lent) (leb c (length lent)) no e4 in
+    let a4 = went-left IsFound done (Refused Room, lent) (leb c (length lent)) false≢true e4 in
     let is : recordRead s lent ≡ done = a1 .1 ∙ a2 .1 ∙ a3 .1 ∙ a4 .1 in
     let g = same-found v n k (be64 s 3) c (recordSize c) (ap (λ (x : Handed). x .0) (sym is) ∙ q) in
     record {

@@ -1,12 +1,11 @@
 -- What the record of open bins answers, by what its placing answered; and a frame's record by its level.
 use Prim.Native.Nat.{ℕ, _+_}
 use mathlib.Core.Path.{_≡_, refl, sym, ap, _∙_}
-use mathlib.Core.Bool.{Bool, true, false}
+use mathlib.Core.Bool.{Bool, true, false, false≢true}
 use mathlib.Core.List.{List}
 use lib.Dec.{leb}
 use lib.ListN.{length, getD}
 use lib.Ieee.{Float, nan}
-use Rattle.floats.proofs.Sat.{no}
 use Rattle.sequences.specs.All.{all}
 use Rattle.sequences.specs.Pick.{pick, took, skipped}
 use Rattle.sequences.specs.Table.{length-table}
@@ -26,7 +25,7 @@ is-placed (Refused k) = false
 
 pub apart : (p : ℕ) (k : Refusal) → Upto p ≡ Refused k → ⊥
 unfolding is-placed
-apart p k e = no (sym (ap is-placed e))
+apart p k e = false≢true (sym (ap is-placed e))
 
 abbrev One : Type 0
 One = Written × List ℕ

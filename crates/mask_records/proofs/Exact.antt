@@ -3,7 +3,7 @@ use Prim.Native.Nat.{ℕ, suc, _+_, _-_, _*_, _/_, _^_, _≤_, _<_}
 use native.Mathlib.Nat.{le-trans, lt-of-le-of-lt, lt-of-lt-of-le, le-of-eq, mul-comm, mul-assoc, mul-right-comm, mul-one, mul-pos, mul-le-mul-right, mul-lt-mul-of-pos-right, le-of-mul-le-mul-right, eq-of-mul-eq-mul-right, pow-le-pow-right, div-eq-of-lt, div-lt-iff-lt-mul}
 use native.Mathlib.Omega.{arith}
 use mathlib.Core.Path.{_≡_, refl, sym, ap, _∙_}
-use mathlib.Core.Bool.{Bool, true, false}
+use mathlib.Core.Bool.{Bool, true, false, false≢true}
 use lib.IntN.{ℤ, pos, negsuc}
 use lib.Dec.{T}
 use lib.Pow.{pow-pos, pow-add}
@@ -14,7 +14,6 @@ use lib.Ieee.Scale.{round-same}
 use lib.Ieee.Order.{round-mono}
 use lib.Ieee.Nearest.{div-mono}
 use Rattle.floats.proofs.Values.{fine, steps, steps-are, pow-le-back}
-use Rattle.floats.proofs.Sat.{no}
 use Rattle.floats_laws.proofs.Casting.{unsigned-rises}
 
 -- ---- a fraction that is q * 2 ^ e, with few digits and not above k
@@ -74,7 +73,7 @@ pub with-half : (y : Float) (X d : ℕ) → 0 < d → HasValue y false (X * 10) 
 unfolding add sum
 with-half nan X d D v = absurd v
 with-half (inf s) X d D v = absurd v
-with-half (fin true m e) X d D v = absurd (let z : _≡_ {A = Bool} true false = v .0 in no (sym z))
+with-half (fin true m e) X d D v = absurd (let z : _≡_ {A = Bool} true false = v .0 in false≢true (sym z))
 with-half (fin false m e) X d D v =
     round-same binary64 false (m * up e * 2 + 1 * 1 * down e) (down e * 2) (20 * X + d) (2 * d) (mul-pos (down-pos e) (pow-pos 1)) (mul-pos {m = 2} {n = d} (pow-pos 1) D) (cross (m * up e) (down e) X d (v .1))
 
@@ -83,7 +82,7 @@ whole-part : (y : Float) (a c : ℕ) → 0 < c → a / c < 2 ^ 53 → HasValue y
 unfolding toUnsigned
 whole-part nan a c C l v = absurd v
 whole-part (inf s) a c C l v = absurd v
-whole-part (fin true m e) a c C l v = absurd (let z : _≡_ {A = Bool} true false = v .0 in no (sym z))
+whole-part (fin true m e) a c C l v = absurd (let z : _≡_ {A = Bool} true false = v .0 in false≢true (sym z))
 whole-part (fin false m e) a c C l v =
     let u = div-mono (m * up e) (down e) a c (down-pos e) C (le-of-eq (v .1)) in
     let w = div-mono a c (m * up e) (down e) C (down-pos e) (le-of-eq (sym (v .1))) in

@@ -1,6 +1,6 @@
 -- `edged` case by case, and where what stands within never falls and is never below 0, `edged` of it never falls.
 use mathlib.Core.Path.{_≡_, refl, sym, _∙_, subst, subst⁻¹}
-use mathlib.Core.Bool.{Bool, true, false, not}
+use mathlib.Core.Bool.{Bool, true, false, not, false≢true}
 use lib.IntN.{pos}
 use lib.Dec.{T}
 use lib.Ieee.{Float, inf, fin, lt, le, eq, ne, isNan}
@@ -11,7 +11,6 @@ use Rattle.floats_laws.proofs.Numbers.{lt-left-number}
 use Rattle.floats_laws.proofs.Rules.{le-left, le-right}
 use Rattle.floats_laws.proofs.Rising.{highest, nought}
 use Rattle.floats_laws.proofs.Through.{le-lt, lt-le}
-use Rattle.floats.proofs.Sat.{no}
 use Rattle.powers.specs.Placed.{edged}
 
 abbrev pub upper-edge : Float
@@ -59,10 +58,10 @@ module _ (g : Float → Float) (rises : (x y : Float) → Inside x → Inside y 
   edged-rises x y l = go (lt x upper-edge) (lt lower-edge x) (lt y upper-edge) (lt lower-edge y) refl refl refl refl
     where
       under : lt y upper-edge ≡ true → lt x upper-edge ≡ false → ⊥
-      under h k = no (sym k ∙ le-lt x y upper-edge l h)
+      under h k = false≢true (sym k ∙ le-lt x y upper-edge l h)
 
       over : lt lower-edge x ≡ true → lt lower-edge y ≡ false → ⊥
-      over h k = no (sym k ∙ lt-le lower-edge x y h l)
+      over h k = false≢true (sym k ∙ lt-le lower-edge x y h l)
 
       go : (a b c d : Bool) → lt x upper-edge ≡ a → lt lower-edge x ≡ b → lt y upper-edge ≡ c → lt lower-edge y ≡ d → T (le (edged g x) (edged g y))
       go a b false d h k h' k' = subst⁻¹ (λ (z : Float). T (le (edged g x) z)) (edged-high g y (is-false (isNan y) (le-right x y l)) h') (highest (edged g x) (edged-number x (le-left x y l)))

@@ -1,7 +1,7 @@
 -- THE CLAIM: e^x at binary64 never falls as x rises, the infinities included. Each step keeps the order: the pattern of its size, the product, the side, the polynomial, the assembly.
 use mathlib.Core.Path.{_≡_, refl, ap, _∙_, subst}
 use mathlib.Core.Logic.{inl, inr}
-use mathlib.Core.Bool.{Bool, true, false}
+use mathlib.Core.Bool.{Bool, true, false, false≢true}
 use Prim.Native.Nat.{ℕ, zero, suc, zero-le, _+_, _-_, _*_, _/_, _%_, _^_, _≤_, _<_}
 use native.Mathlib.Nat.{le-add-right, le-refl, le-trans, le-of-eq, mod-eq-of-lt, mul-assoc, mul-pos, mul-le-mul, mul-le-mul-right, eq-or-lt-of-le, zero-mul, zero-div, zero-lt-suc}
 use native.Mathlib.Omega.{arith}
@@ -15,7 +15,6 @@ use borrow.Author.Tests.{ltb-true, lt-ltb, le-ltb}
 use Rattle.floats_laws.proofs.Mono.{le→signed}
 use Rattle.floats_laws.proofs.Naturals.{sum-rises, div-rises, shifted-less}
 use Rattle.floats_laws.proofs.PatternOrder.{patterns-rise, bits-under, sizes-rise}
-use Rattle.floats.proofs.Sat.{no}
 use Rattle.floats.proofs.Sign.{negative-is}
 use Rattle.powers.specs.Placed.{edged, placed, placed64}
 use Rattle.powers.specs.Exp64.{scaled, sided, high, expMantissa, expBits, exp64}
@@ -138,9 +137,9 @@ bits-inside s m e i = bits-under binary64 10 m e (size-inside s m e i)
 -- without the sign's weight
 pub size-bits : (x : Float) → Inside x → toBits binary64 x % 9223372036854775808 < 4652218415073722368
 unfolding lt
-size-bits nan i = absurd (no (i .0))
-size-bits (inf true) i = absurd (no (i .1))
-size-bits (inf false) i = absurd (no (i .0))
+size-bits nan i = absurd (false≢true (i .0))
+size-bits (inf true) i = absurd (false≢true (i .1))
+size-bits (inf false) i = absurd (false≢true (i .0))
 size-bits (fin false m e) i = let h = bits-inside false m e i in omega arith
 size-bits (fin true m e) i = let h = bits-inside true m e i in omega (arith, negative-is binary64 m e)
 
@@ -188,12 +187,12 @@ sides-rise false m e true n d i j h =
 -- ---- the whole
 sided-rises : (x y : Float) → Inside x → Inside y → T (le x y) → sided (toBits binary64 x) ≤ sided (toBits binary64 y)
 unfolding lt
-sided-rises nan y i j h = absurd (no (i .0))
-sided-rises (inf true) y i j h = absurd (no (i .1))
-sided-rises (inf false) y i j h = absurd (no (i .0))
-sided-rises (fin s m e) nan i j h = absurd (no (j .0))
-sided-rises (fin s m e) (inf true) i j h = absurd (no (j .1))
-sided-rises (fin s m e) (inf false) i j h = absurd (no (j .0))
+sided-rises nan y i j h = absurd (false≢true (i .0))
+sided-rises (inf true) y i j h = absurd (false≢true (i .1))
+sided-rises (inf false) y i j h = absurd (false≢true (i .0))
+sided-rises (fin s m e) nan i j h = absurd (false≢true (j .0))
+sided-rises (fin s m e) (inf true) i j h = absurd (false≢true (j .1))
+sided-rises (fin s m e) (inf false) i j h = absurd (false≢true (j .0))
 sided-rises (fin s m e) (fin t n d) i j h = sides-rise s m e t n d i j h
 
 abbrev within : Float → Float

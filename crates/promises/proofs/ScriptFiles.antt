@@ -2,13 +2,12 @@
 use Prim.Native.Nat.{ℕ, _+_, _≤_}
 use native.Mathlib.Omega.{arith}
 use mathlib.Core.Path.{_≡_, refl, sym, ap, _∙_}
-use mathlib.Core.Bool.{Bool, true, false}
+use mathlib.Core.Bool.{Bool, true, false, false≢true}
 use mathlib.Core.List.{List, [], _∷_}
 use borrow.Author.Tests.{ltb-false}
 use lib.Dec.{ltb, leb}
 use lib.Ieee.{Float}
 use lib.ListN.{length}
-use Rattle.floats.proofs.Sat.{no}
 use Rattle.sequences.specs.Every.{Every}
 use Rattle.sequences.specs.Pick.{pick, went-left, went-right}
 use Rattle.text.specs.Put.{splice}
@@ -61,7 +60,7 @@ is-placed (Refused k) = false
 
 refused-not : (k : Refusal) (p : ℕ) → Refused k ≡ Upto p → ⊥
 unfolding is-placed
-refused-not k p e = no (ap is-placed e)
+refused-not k p e = false≢true (ap is-placed e)
 
 placed-at : (p q : ℕ) → Upto q ≡ Upto p → p ≡ q
 placed-at p q e = cc

@@ -51,11 +51,6 @@ module _ {A : Type 0} (q : ℕ → A → Bool) (d : A) where
   from-least i [] = le-refl i
   from-least i (x ∷ xs) = either (λ r. i ≤ r) (q i x) i (firstFrom q (suc i) xs tt) (le-refl i) (let h = from-least (suc i) xs in omega arith)
 
-  from-most : (i : ℕ) (xs : List A) → firstFrom q i xs tt ≤ i + length xs
-  unfolding firstFrom
-  from-most i [] = omega arith
-  from-most i (x ∷ xs) = either (λ r. r ≤ i + suc (length xs)) (q i x) i (firstFrom q (suc i) xs tt) (omega arith) (let h = from-most (suc i) xs in omega arith)
-
   shifted : (i j : ℕ) → i + suc j ≡ suc i + j
   shifted i j = add-suc i j ∙ sym (suc-add i j)
 

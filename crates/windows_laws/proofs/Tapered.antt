@@ -3,7 +3,7 @@ use Prim.Native.Nat.{suc, _+_, _-_, _*_, _^_, _≤_, _<_}
 use native.Mathlib.Nat.{pow-suc}
 use native.Mathlib.Omega.{arith}
 use mathlib.Core.Path.{_≡_, refl, sym, subst}
-use mathlib.Core.Bool.{true, false, not}
+use mathlib.Core.Bool.{true, false, not, false≢true}
 use borrow.Author.Tests.{ltb-true}
 use denote.Floats.{passes}
 use lib.IntN.{pos, negsuc}
@@ -24,7 +24,6 @@ use Rattle.floats_laws.proofs.Mono.{le→signed}
 use Rattle.floats_laws.proofs.Numbers.{mul-number}
 use Rattle.floats_laws.proofs.Rising.{nought, sub-falls, mul-rises}
 use Rattle.floats_laws.proofs.Rules.{finite-number, le-trans}
-use Rattle.floats.proofs.Sat.{no}
 use Rattle.floats_laws.proofs.Units.{one as i, zero-fits, one-fits, unit}
 use Rattle.floats.proofs.Values.{fine, same-fin}
 use Rattle.sequences.specs.Pick.{by-case}
@@ -148,10 +147,10 @@ not-finite h = h
 
 upper-half : (y : Float) → T (fits binary32 y) → T (le y i) → lt half y ≡ true → T (le (polynomial y) i)
 unfolding lt
-upper-half nan p h k = absurd (no k)
-upper-half (inf true) p h k = absurd (no k)
+upper-half nan p h k = absurd (false≢true k)
+upper-half (inf true) p h k = absurd (false≢true k)
 upper-half (inf false) p h k = absurd (not-finite h)
-upper-half (fin true m e) p h k = absurd (no k)
+upper-half (fin true m e) p h k = absurd (false≢true k)
 upper-half (fin false m (pos j)) p h k = subst (λ (x : Float). T (le (polynomial x) i)) (sym (same-fin binary32 false m (pos j) 1 (pos 0) p (one-fits binary32) is)) at-one
   where
     is : m * 2 ^ j * 1 ≡ 1 * 2 ^ 0 * 1
