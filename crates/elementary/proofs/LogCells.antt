@@ -11,6 +11,7 @@ use borrow.Author.Tests.{lt-ltb}
 use Rattle.sequences.specs.All.{all, all-at}
 use Rattle.elementary.specs.LogCells.{logTop, logTops, logSlope, logSlopes, logBend, logBends}
 use Rattle.elementary.specs.Log2.{fallOf, cellOf, fractionOf}
+use Rattle.floats_laws.proofs.Naturals.{sum-rises}
 
 -- ---- the rule of the table: a cell starts at 0 or above, and ends where the next starts or below; the last ends below 1
 unfoldable starts : ℕ → Bool
@@ -41,12 +42,9 @@ meet i h = subst (λ (b : Bool). logTop i ≤ cond b (cellOf (suc i) 131071) 461
     next i h = omega arith
 
 -- ---- order in a cell and from cell to cell
-plus : (k : ℕ) {a b : ℕ} → a ≤ b → k + a ≤ k + b
-plus k h = omega arith
-
 fall-mono : (i : ℕ) {t u : ℕ} → t ≤ u → fallOf i t ≤ fallOf i u
 unfolding fallOf
-fall-mono i h = mul-le-mul h (plus (logSlope i) (mul-le-mul-left (logBend i) h))
+fall-mono i h = mul-le-mul h (sum-rises (logSlope i) (mul-le-mul-left (logBend i) h))
 
 cell-mono : (i : ℕ) {t u : ℕ} → t ≤ u → cellOf i u ≤ cellOf i t
 unfolding cellOf
@@ -87,7 +85,7 @@ fall-le i t h k = le-trans (fall-mono i k) (start i h)
 
 pub inner-le : (i t : ℕ) → i < 64 → t ≤ 131071 → logSlope i + logBend i * t ≤ logTop i
 unfolding fallOf
-inner-le i t h k = le-trans (le-trans (plus (logSlope i) (mul-le-mul-left (logBend i) k)) (times 131071 (logSlope i + logBend i * 131071) (leb→le 1 131071 tt))) (start i h)
+inner-le i t h k = le-trans (le-trans (sum-rises (logSlope i) (mul-le-mul-left (logBend i) k)) (times 131071 (logSlope i + logBend i * 131071) (leb→le 1 131071 tt))) (start i h)
   where
     times : (a b : ℕ) → 1 ≤ a → b ≤ a * b
     times a b h = le-trans (le-of-eq (sym (one-mul b))) (mul-le-mul-right b h)

@@ -15,8 +15,9 @@ use borrow.Author.Tests.{eqb-true, eqb-false}
 use Rattle.floats_laws.proofs.Naturals.{le-or-lt}
 use Rattle.floats_laws.proofs.Patterns.{val, bits-value}
 use Rattle.floats_laws.proofs.PositiveBits.{positive-above, positive-under}
-use Rattle.floats_laws.proofs.Rescaled.{rescale, one-value, powers-join, powers-move}
+use Rattle.floats_laws.proofs.Rescaled.{rescale, one-value, powers-move}
 use Rattle.floats.proofs.Values.{unique}
+use Rattle.floats.proofs.Residues.{gathered}
 use Rattle.elementary.specs.Rung.{rungOf, digitsOf}
 use Rattle.elementary.specs.Sqrt.{NearestRoot, nearestRoot, scaledOf, rootBits, sqrtOf, RootRounded}
 use Rattle.elementary.proofs.Rungs.{amount, Parts, parts}
@@ -117,10 +118,10 @@ scaled-value b s =
     let j = rungOf b in
     let h = (j + 1) / 2 in
     ap (λ (z : ℕ). z * 2 ^ (2 * h) * 2 ^ 149) (scaled-is b)
-    ∙ ap (λ (z : ℕ). z * 2 ^ 149) (powers-join m (24 - j % 2) (2 * h))
+    ∙ ap (λ (z : ℕ). z * 2 ^ 149) (gathered m (24 - j % 2) (2 * h))
     ∙ powers-move m (24 - j % 2 + 2 * h) 149 j 173 (same j)
     ∙ ap (λ (z : ℕ). z * 2 ^ 173) (s .value)
-    ∙ powers-join (amount b) 23 173
+    ∙ gathered (amount b) 23 173
   where
     same : (j : ℕ) → 24 - j % 2 + 2 * ((j + 1) / 2) + 149 ≡ j + 173
     same j = omega arith

@@ -11,7 +11,7 @@ use lib.Dec.{T, eqb, eqb→eq, ltb→lt, lt→ltb}
 use lib.Ieee.{Float, nan, inf, fin, binary32, up, down, isNan, ne, lt, le, eq, level, toBits}
 use lib.Ieee.Fits.{up-pos, and-l}
 use lib.Ieee.Positive.{positive, above, above-of-le}
-use Rattle.floats_laws.proofs.Rising.{nought}
+use Rattle.floats_laws.proofs.Rising.{nought, highest}
 use Rattle.floats.proofs.Facts.{ne-self}
 use Rattle.elementary.specs.Log2.{logOf, log2Of}
 use borrow.Author.Tests.{ltb-false, le-ltb, ne-eqb}
@@ -100,18 +100,7 @@ at-least-zero (fin true (suc m) e) h = absurd (none' (0 * 1 * down e) (suc m * u
 
 -- ---- infinity is the largest
 pub under-infinity : (x : Float) → isNan x ≡ false → T (le x (inf false))
-unfolding isNan le lt eq
-under-infinity nan h = absurd (true≢false h)
-under-infinity (inf true) h = tt
-under-infinity (inf false) h = tt
-under-infinity (fin s m e) h = tt
-
-pub infinity-top : (y : Float) → T (le (inf false) y) → y ≡ inf false
-unfolding le lt eq
-infinity-top nan h = absurd h
-infinity-top (inf true) h = absurd h
-infinity-top (inf false) h = refl
-infinity-top (fin s m e) h = absurd h
+under-infinity x h = highest x (rw h tt)
 
 -- what a finite number above zero is at most is that or infinity
 pub rises-to : (x y : Float) → T (positive x) → T (le x y) → T (positive y) ⊎ (y ≡ inf false)

@@ -21,8 +21,8 @@ use Rattle.elementary.proofs.LogCells.{fraction-mono, fraction-lt}
 use Rattle.elementary_laws.proofs.LogExact.{log2-infinity}
 use Rattle.elementary_laws.proofs.LogRungs.{answer, along, across, upward}
 use Rattle.elementary.proofs.Rungs.{Parts, parts, under}
-use Rattle.elementary.proofs.Tested.{log-is, above-zero, under-infinity, infinity-top, rises-to}
-use Rattle.floats_laws.proofs.Rising.{nought}
+use Rattle.elementary.proofs.Tested.{log-is, above-zero, under-infinity, rises-to}
+use Rattle.floats_laws.proofs.Rising.{nought, past-highest}
 
 -- ---- over patterns
 log-answer : (b : ℕ) → logOf b ≡ answer (rungOf b) (fractionOf (digitsOf b - 8388608))
@@ -97,7 +97,7 @@ finite-number (fin s m e) h = refl
 pub log2-rises : (x y : Float) → T (fits binary32 x) → T (fits binary32 y) → T (lt nought x) → T (le x y) → T (le (log2Of x) (log2Of y))
 unfolding le lt eq
 log2-rises x y f g h k = elim (above-zero x h) [
-  | inr e ↦ rw (infinity-top y (subst (λ (z : Float). T (le z y)) e k), e, log2-infinity) tt
+  | inr e ↦ rw (past-highest y (subst (λ (z : Float). T (le z y)) e k), e, log2-infinity) tt
   | inl p ↦ elim (rises-to x y p k) [
     | inr e ↦ rw (e, log2-infinity) (under-infinity (log2Of x) (finite-number (log2Of x) (within x f p .finite)))
     | inl q ↦ rw (log-is x p, log-is y q) (patterns-rise (toBits binary32 x) (toBits binary32 y) (positive-above binary32 x f p) (toBits-mono binary32 x y p q k) (positive-under binary32 y g q))

@@ -15,9 +15,9 @@ use lib.Ieee.Exact.{HasValue, round-exact}
 use lib.Ieee.Fits.{add-fits, and-l, and-r, down-pos}
 use lib.Ieee.Order.{le-of-values}
 use lib.Ieee.Scale.{finite, round-same}
-use Rattle.floats_laws.proofs.Rescaled.{powers-join}
 use Rattle.floats_laws.proofs.Rules.{add-number, finite-number, le-trans}
 use Rattle.floats_laws.proofs.Rising.{add-rises}
+use Rattle.floats.proofs.Residues.{gathered}
 use Rattle.sequences.specs.All.{all, all-at}
 
 -- ---- f units of 2^-24, exact
@@ -44,7 +44,7 @@ unit-is = refl
 part-value : (f : ℕ) → f < 2 ^ 24 → HasValue (part f) false f (2 ^ 24)
 part-value f h =
     subst⁻¹ (λ (x : Float). HasValue x false f (2 ^ 24)) (ap (mul binary32 (ofInt binary32 (pos f))) unit-is ∙ times-unit (ofInt binary32 (pos f)) f (whole-value f h))
-    (round-exact binary32 false f (2 ^ 24) f 125 (pow-pos 24) h (N.lt-of-lt-of-le (shl-lt 24 125 h) (pow-mono (leb→le 149 277 tt))) (sym (powers-join f 125 24)))
+    (round-exact binary32 false f (2 ^ 24) f 125 (pow-pos 24) h (N.lt-of-lt-of-le (shl-lt 24 125 h) (pow-mono (leb→le 149 277 tt))) (sym (gathered f 125 24)))
 
 part-le : (f g : ℕ) → f ≤ g → g < 2 ^ 24 → T (le (part f) (part g))
 part-le f g h k = le-of-values (part f) (part g) f (2 ^ 24) g (2 ^ 24) (pow-pos 24) (pow-pos 24) (part-value f (N.lt-of-le-of-lt h k)) (part-value g k) (mul-le-mul-right (2 ^ 24) h)

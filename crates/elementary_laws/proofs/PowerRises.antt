@@ -17,12 +17,13 @@ use Rattle.floats_laws.proofs.PatternOrder.{patterns-rise}
 use Rattle.floats_laws.proofs.Rules.{add-number, finite-number, between-finite, lt→le}
 use Rattle.floats_laws.proofs.Rising.{add-rises, mul-rises, nought}
 use Rattle.floats_laws.proofs.ToBits.{toBits-mono}
+use Rattle.floats_laws.proofs.Units.{one}
 use Rattle.powers.specs.Placed.{edged, placed, placed32}
 use Rattle.powers.specs.PowerCells.{powerStarts, powerSlopes, powerBends, powerStart, powerSlope, powerBend}
 use Rattle.powers.specs.Power.{lifted, mantissa, powerBits, power, exp2, exp, pow8, pow10}
 use Rattle.powers.proofs.Edges.{upper-edge, lower-edge, Inside, edged-rises}
 use Rattle.powers.proofs.PlacedRises.{placed-climbs, placed-rises, placed-under}
-use Rattle.powers.proofs.PowerLike.{one, PowerLike}
+use Rattle.powers.proofs.PowerLike.{PowerLike}
 use Rattle.powers.proofs.PowerTable.{mantissa-rises, mantissa-low, mantissa-high}
 
 -- ---- patterns: from the bits of z to those of the answer

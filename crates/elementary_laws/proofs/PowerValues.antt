@@ -14,11 +14,12 @@ use Rattle.floats_laws.proofs.Rising.{div-rises, nought}
 use Rattle.floats_laws.proofs.Rules.{le-trans}
 use Rattle.sequences.specs.All.{all, all-at}
 use Rattle.floats_laws.proofs.Same.{same, same→≡}
+use Rattle.floats_laws.proofs.Units.{one}
 use Rattle.powers.specs.Placed.{edged, placed}
 use Rattle.powers.specs.PowerCells.{powerStarts, powerSlopes, powerBends, powerStart, powerSlope, powerBend}
 use Rattle.powers.specs.Power.{lifted, mantissa, powerBits, power, exp2, pow10, dbToGain}
 use Rattle.powers.proofs.Edges.{upper-edge, lower-edge}
-use Rattle.powers.proofs.PowerLike.{one, in-unit, at-most-one}
+use Rattle.powers.proofs.PowerLike.{in-unit, at-most-one}
 use Rattle.elementary_laws.proofs.PowerRises.{pow10-like}
 
 -- ---- 2^(n - 149), for n from 0 to 276

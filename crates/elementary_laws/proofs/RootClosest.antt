@@ -12,8 +12,9 @@ use lib.Ieee.Exact.{HasValue}
 use lib.Ieee.Digits.{back}
 use lib.Ieee.Positive.{positive}
 use Rattle.floats_laws.proofs.Naturals.{le-or-lt}
-use Rattle.floats_laws.proofs.Rescaled.{rescale, one-value, powers-join, powers-move}
+use Rattle.floats_laws.proofs.Rescaled.{rescale, one-value, powers-move}
 use Rattle.floats.proofs.Values.{fine, steps, steps-are}
+use Rattle.floats.proofs.Residues.{gathered}
 use Rattle.elementary.specs.Sqrt.{square, NearestRoot, sqrtOf, RootRounded, Closest}
 use Rattle.elementary.proofs.RootNearest.{sqrt-rounds}
 use Rattle.elementary.proofs.Rungs.{rungs-le}
@@ -46,7 +47,7 @@ record Multiple (t c : ℕ) : Type 0 where
 multiple : (t c : ℕ) → Gridded c → 8388608 * 2 ^ t ≤ c → Multiple t c
 multiple t c g h =
     let l : t ≤ g .s = rungs-le 8388608 t (g .m) (g .s) (omega arith) (g .few) (subst (λ (n : ℕ). 8388608 * 2 ^ t ≤ n) (g .is) h) in
-    record { k = g .m * 2 ^ (g .s - t); is = g .is ∙ ap (λ (n : ℕ). g .m * 2 ^ n) (sym (back (g .s) t l)) ∙ sym (powers-join (g .m) (g .s - t) t) }
+    record { k = g .m * 2 ^ (g .s - t); is = g .is ∙ ap (λ (n : ℕ). g .m * 2 ^ n) (sym (back (g .s) t l)) ∙ sym (gathered (g .m) (g .s - t) t) }
 
 -- ---- the middles, with the step u
 square-times : (a u : ℕ) → square (a * u) ≡ square a * (u * u)

@@ -1,7 +1,7 @@
 -- sqrt never falls as its argument rises from zero on; its bounds for callers; its special cases.
 use mathlib.Core.Path.{_≡_, refl, ap, _∙_, subst, subst⁻¹}
 use mathlib.Core.Logic.{inl, inr}
-use mathlib.Core.Bool.{Bool, true, false, cond, _||_}
+use mathlib.Core.Bool.{Bool, true, false, cond}
 use Prim.Native.Nat.{ℕ, _+_, _*_, _/_, _^_, _≤_, _<_}
 use native.Mathlib.Nat.{mul-pos, mul-le-mul-right, le-of-mul-le-mul-right, lt-of-lt-of-le, eq-or-lt-of-le}
 use native.Mathlib.Nat as N
@@ -23,8 +23,8 @@ use Rattle.elementary.specs.Sqrt.{square, nearestRoot, scaledOf, rootBits, sqrt
 use Rattle.elementary.proofs.RootNearest.{sqrt-is, scaled, scaled-value}
 use Rattle.elementary.proofs.Rungs.{parts, under}
 use Rattle.elementary.proofs.Squares.{root-is, root-mono, perfect}
-use Rattle.elementary.proofs.Tested.{passed, Level, none, some, most, at-least-zero, under-infinity, infinity-top, rises-to}
-use Rattle.floats_laws.proofs.Rising.{nought}
+use Rattle.elementary.proofs.Tested.{passed, Level, none, some, most, at-least-zero, under-infinity, rises-to}
+use Rattle.floats_laws.proofs.Rising.{nought, past-highest, or-left, or-right}
 
 -- ---- over patterns
 level : (n m k : ℕ) → n * 2 ^ k * 2 ^ 149 ≤ m * 2 ^ k * 2 ^ 149 → n ≤ m
@@ -103,22 +103,14 @@ unfolding le lt
 nought-under nan p = absurd p
 nought-under (inf s) p = absurd p
 nought-under (fin true n d) p = absurd p
-nought-under (fin false n d) p = or-l (ltb (0 * 1 * down d) (n * up d * 1)) _ (lt→ltb (0 * 1 * down d) (n * up d * 1) (past (down d) (mul-pos (mul-pos (ltb→lt 0 n p) (up-pos d)) (pow-pos 0))))
+nought-under (fin false n d) p = or-left (ltb (0 * 1 * down d) (n * up d * 1)) _ (lt→ltb (0 * 1 * down d) (n * up d * 1) (past (down d) (mul-pos (mul-pos (ltb→lt 0 n p) (up-pos d)) (pow-pos 0))))
   where
-    or-l : (a b : Bool) → T a → T (a || b)
-    or-l true b t = tt
-    or-l false b t = absurd t
-
     past : {a : ℕ} (k : ℕ) → 0 < a → 0 * 1 * k < a
     past k h = omega arith
 
 zero-under : (x y : Float) → T (fits binary32 x) → T (fits binary32 y) → eq x nought ≡ true → T (positive y) → T (le x y)
 unfolding le fits
-zero-under x y f g h p = le-trans binary32 x nought y f tt g (or-r (lt x nought) (eq x nought) (subst⁻¹ T h tt)) (nought-under y p)
-  where
-    or-r : (a b : Bool) → T b → T (a || b)
-    or-r true b t = tt
-    or-r false b t = t
+zero-under x y f g h p = le-trans binary32 x nought y f tt g (or-right (lt x nought) (eq x nought) (subst⁻¹ T h tt)) (nought-under y p)
 
 -- ---- THE CLAIM
 pub sqrt-rises : (x y : Float) → T (fits binary32 x) → T (fits binary32 y) → T (le nought x) → T (le x y) → T (le (sqrtOf x) (sqrtOf y))
@@ -143,7 +135,7 @@ sqrt-rises x y f g h k = go (at-least-zero x h)
       | inl q ↦ positives p q
       | inr e ↦ rw (e, sqrt-infinity) (under-infinity (sqrtOf x) (passed (sqrtOf x) (root-positive x f p) .number))
     ]
-    go (most e) = rw (infinity-top y (subst (λ (z : Float). T (le z y)) e k), e, sqrt-infinity) (under-infinity (inf false) refl)
+    go (most e) = rw (past-highest y (subst (λ (z : Float). T (le z y)) e k), e, sqrt-infinity) (under-infinity (inf false) refl)
 
 -- ---- bounds for callers
 pub sqrt-finite : (x : Float) → T (fits binary32 x) → T (le nought x) → T (finite x) → T (finite (sqrtOf x)) × T (le nought (sqrtOf x))

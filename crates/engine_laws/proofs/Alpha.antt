@@ -12,7 +12,6 @@ use lib.Ieee.Scale.{finite}
 use Rattle.floats.specs.Names.{f32, f64, sub64, mul64, div64}
 use Rattle.floats_laws.proofs.Rules.{add-number, neg-finite, between-finite, le-trans as float-trans}
 use Rattle.floats_laws.proofs.Rising.{nought, sub-falls}
-use Rattle.floats_laws.proofs.Euclid.{nought-fits}
 use Rattle.floats_laws.proofs.Products.{mul-rises-right}
 use Rattle.floats_laws.proofs.Mag.{Mag, mag-finite, le-upto}
 use Rattle.floats_laws.proofs.Bounds.{mul-mag}
@@ -23,6 +22,7 @@ use Rattle.settings.specs.Settings.{lawfulRate}
 use Rattle.state.specs.Make.{alphaOf}
 use Rattle.floats_laws.proofs.Fractions.{Under, Above, held, div-under}
 use Rattle.floats_laws.proofs.Between.{under-between, under-least, under-most, above-of}
+use Rattle.floats_laws.proofs.Units.{zero-fits}
 
 -- ---- a lawful rate
 pub rate-above : (rate : Float) → T (lawfulRate rate) → Above rate 8000
@@ -81,7 +81,7 @@ rate-mag rate p l =
     let highest = f32 0x48bb8000 in
     let bounds = le lowest rate && le rate highest in
     let b = and-r (finite rate) bounds l in
-    le-upto rate highest 384000 (float-trans binary32 nought lowest rate (nought-fits binary32) (ofBits-fits binary32 0x45fa0000) p tt (and-l (le lowest rate) (le rate highest) b)) (and-r (le lowest rate) (le rate highest) b) (lit≤ tt)
+    le-upto rate highest 384000 (float-trans binary32 nought lowest rate (zero-fits binary32 false) (ofBits-fits binary32 0x45fa0000) p tt (and-l (le lowest rate) (le rate highest) b)) (and-r (le lowest rate) (le rate highest) b) (lit≤ tt)
 
 module _ (rate : Float) (p : T (fits binary32 rate)) (l : T (lawfulRate rate)) where
   abbrev product : Float

@@ -5,7 +5,7 @@ use mathlib.Core.Bool.{Bool, true, false, false≢true}
 use lib.Count.{trailingZeros}
 use lib.Dec.{T}
 use lib.Ieee.{Float, binary32, binary64, add, mul, sum, round, size, span, climb, units, odd, lt, le, eq, isNan, fits, ofBits, ofFields, toBits, toUnsigned}
-use lib.Ieee.Bits.{is-true, ofBits-fits}
+use lib.Ieee.Bits.{is-true}
 use lib.Ieee.Fits.{mul-fits}
 use lib.Ieee.Scale.{finite}
 use Rattle.sequences.specs.Pick.{pick}
@@ -17,7 +17,7 @@ use Rattle.floats_laws.proofs.Products.{mul-rises-right}
 use Rattle.floats_laws.proofs.Rising.{nought}
 use Rattle.floats_laws.proofs.Rules.{between-finite, finite-number, lt→le}
 use Rattle.floats_laws.proofs.Spans.{lt-le}
-use Rattle.floats_laws.proofs.Proportions.{i, i-fits, nought-fits, one-unit}
+use Rattle.floats_laws.proofs.Proportions.{one-unit}
 use Rattle.draws.specs.Draws.{randomOf}
 use Rattle.draws.proofs.Drawn.{random-in}
 use Rattle.powers.specs.Placed.{edged, placed}
@@ -36,6 +36,7 @@ use Rattle.sources.specs.Sources.{isPitched, isEligible}
 use Rattle.births.specs.Voices.{freeRootOf, freeHzOf, freeVoiceOf, sourceVoiceOf}
 use Rattle.frame_laws.proofs.Newborn.{Voiced}
 use Rattle.floats_laws.proofs.Fitting.{own-convert}
+use Rattle.floats_laws.proofs.Units.{one as i, one-fits, zero-fits}
 use Rattle.pitch.specs.Highest.{maxHzOf}
 
 -- what a Source of the code always has: its floats are f32s
@@ -65,9 +66,9 @@ source-voiced slot s h f =
     record {
       strength =
           record {
-            held = clamp-fits binary32 (s .strength) nought i (f .strength) nought-fits i-fits;
-            least = clamp-least binary32 (s .strength) nought i (f .strength) nought-fits i-fits n (one-unit .least);
-            most = clamp-most binary32 (s .strength) nought i (f .strength) nought-fits i-fits n (one-unit .least);
+            held = clamp-fits binary32 (s .strength) nought i (f .strength) (zero-fits binary32 false) (one-fits binary32);
+            least = clamp-least binary32 (s .strength) nought i (f .strength) (zero-fits binary32 false) (one-fits binary32) n (one-unit .least);
+            most = clamp-most binary32 (s .strength) nought i (f .strength) (zero-fits binary32 false) (one-fits binary32) n (one-unit .least);
           };
       hz-fits = f .hz;
       hz-above = hz .0;
@@ -102,7 +103,7 @@ root-sounds phase =
     let u = subst (λ (z : Float). T (le z (mul32 low y))) (ends .0) (mul-rises-right binary32 i y tt f low (looked .0) (looked .1) a) in
     let v = subst (λ (z : Float). T (le (mul32 low y) z)) (ends .1) (mul-rises-right binary32 y (f32 0x41000000) f (looked .4) low (looked .0) (looked .1) b) in
     let h = mul-fits binary32 low y in
-    (h, lt-le binary32 nought low (mul32 low y) nought-fits (ofBits-fits binary32 0x43480000) h (looked .2) u, between-finite binary32 low (mul32 low y) (f32 0x44c80000) (looked .0) (looked .3) u v)
+    (h, lt-le nought low (mul32 low y) (looked .2) u, between-finite binary32 low (mul32 low y) (f32 0x44c80000) (looked .0) (looked .3) u v)
 
 top-is : (rate : Float) → T (fits binary32 rate) → highestOf rate ≡ maxHzOf rate
 unfolding maxHzOf

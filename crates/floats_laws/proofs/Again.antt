@@ -13,7 +13,7 @@ use Rattle.floats.specs.Remainder.{remEuclid}
 use Rattle.floats_laws.proofs.Keys.{key, lt-key}
 use Rattle.floats_laws.proofs.Rules.{le-left, le-right, le→key}
 use Rattle.floats_laws.proofs.Rising.{nought}
-use Rattle.floats_laws.proofs.Euclid.{nought-fits}
+use Rattle.floats_laws.proofs.Units.{zero-fits}
 use Rattle.floats.proofs.Rem.{rem-inside}
 
 -- ---- held from a to b, where b is not below a and both are numbers
@@ -57,4 +57,4 @@ unfolding remEuclid
 euclid-again f x m p h g = rw (sym (rem-inside f x m p (is-true (le nought x) h) (is-true (lt x m) g)), not-below) refl
   where
     not-below : lt x nought ≡ false
-    not-below = lt-key f x nought p (nought-fits f) (le-right nought x h) (le-left nought x h) ∙ le-ltb (key f x) (key f nought) (le→key f nought x (nought-fits f) p h)
+    not-below = lt-key f x nought p (zero-fits f false) (le-right nought x h) (le-left nought x h) ∙ le-ltb (key f x) (key f nought) (le→key f nought x (zero-fits f false) p h)

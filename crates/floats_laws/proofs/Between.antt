@@ -4,7 +4,7 @@ use native.Mathlib.Nat.{le-trans, le-of-eq, lt-of-lt-of-le, mul-right-comm, mul-
 use native.Mathlib.Omega.{arith}
 use mathlib.Core.Path.{_≡_, refl, sym, subst}
 use mathlib.Core.Logic.{_⊎_, inl, inr}
-use mathlib.Core.Bool.{Bool, true, false, _&&_, _||_}
+use mathlib.Core.Bool.{true, false, _&&_, _||_}
 use lib.IntN.{ℤ}
 use lib.Dec.{T, ltb, lt→ltb, eqb, eqb-refl, eqb→eq}
 use lib.Ieee.{Float, nan, inf, fin, Format, binary32, binary64, up, down, round, units, odd, size, span, climb, add, sum, le, lt, eq, isNan}
@@ -12,10 +12,10 @@ use lib.Ieee.Fits.{down-pos, add-fits, and-i, and-r}
 use lib.Ieee.Scale.{finite}
 use Rattle.floats_laws.proofs.Mono.{le→signed}
 use Rattle.floats_laws.proofs.Rules.{finite-number, add-number, le-trans as float-trans}
-use Rattle.floats_laws.proofs.Rising.{nought, add-rises, add-rises-right}
-use Rattle.floats_laws.proofs.Mag.{le-of}
-use Rattle.floats_laws.proofs.Euclid.{nought-fits}
+use Rattle.floats_laws.proofs.Rising.{nought, add-rises, add-rises-right, or-left, or-right}
+use Rattle.floats_laws.proofs.Mag.{le-of, of-le}
 use Rattle.floats_laws.proofs.Fractions.{Under, Above}
+use Rattle.floats_laws.proofs.Units.{zero-fits}
 
 -- ---- between a number and its negative
 pub under-between : (x : Float) (n : ℕ) (g : ℤ) → T (le (fin true n g) x) → T (le x (fin false n g)) → Under x (n * up g) (down g)
@@ -26,19 +26,7 @@ under-between (inf false) n g h k = absurd k
 under-between (fin false m e) n g h k = le-of (m * up e * down g) (n * up g * down e) k
 under-between (fin true m e) n g h k = omega (arith, le→signed true n g true m e h)
 
--- one of two tests
-pub or-left : (a b : Bool) → T a → T (a || b)
-or-left true b t = tt
-or-left false b t = absurd t
-
-pub or-right : (a b : Bool) → T b → T (a || b)
-or-right true b t = tt
-or-right false b t = t
-
--- `le` of two numbers of one sign, as `lt` and `eq` have it: a at most b, or b at most a
-or-same : (a b : ℕ) → a ≤ b → T (ltb a b || (eqb a b && true))
-or-same a b h = elim (eq-or-lt-of-le h) [ inl p ↦ or-right (ltb a b) _ (subst (λ (x : ℕ). T (eqb a x && true)) p (and-i (eqb a a) true (eqb-refl a) tt)) | inr q ↦ or-left (ltb a b) _ (lt→ltb a b q) ]
-
+-- `le` of two numbers below 0, as `lt` and `eq` have it
 or-swapped : (a b : ℕ) → b ≤ a → T (ltb b a || (eqb a b && true))
 or-swapped a b h = elim (eq-or-lt-of-le h) [ inl p ↦ or-right (ltb b a) _ (subst (λ (x : ℕ). T (eqb a x && true)) (sym p) (and-i (eqb a a) true (eqb-refl a) tt)) | inr q ↦ or-left (ltb b a) _ (lt→ltb b a q) ]
 
@@ -52,7 +40,7 @@ unfolding le lt eq
 under-most nan n g N h = absurd h
 under-most (inf s) n g N h = absurd h
 under-most (fin true m e) n g N h = or-left (lt (fin true m e) (fin false n g)) (eq (fin true m e) (fin false n g)) (lt→ltb 0 (m * up e * down g + n * up g * down e) (some (m * up e * down g) (n * up g * down e) (inr (mul-pos N (down-pos e)))))
-under-most (fin false m e) n g N h = or-same (m * up e * down g) (n * up g * down e) h
+under-most (fin false m e) n g N h = of-le (m * up e * down g) (n * up g * down e) h
 
 pub under-least : (x : Float) (n : ℕ) (g : ℤ) → 0 < n * up g → Under x (n * up g) (down g) → T (le (fin true n g) x)
 unfolding le lt eq
@@ -85,6 +73,6 @@ pub sum-from-zero : (f : Format) (x y : Float) → T (finite x) → T (finite y)
 unfolding isNan
 sum-from-zero f x y u v h g =
     let n = finite-number f x u in
-    float-trans f nought (add f x nought) (add f x y) (nought-fits f) (add-fits f x nought) (add-fits f x y)
+    float-trans f nought (add f x nought) (add f x y) (zero-fits f false) (add-fits f x nought) (add-fits f x y)
     (subst (λ (z : Float). T (le z (add f x nought))) (nothing f) (add-rises f nought x nought h (add-number f nought nought tt tt) (add-number f x nought n tt)))
     (add-rises-right f x nought y g (add-number f x nought n tt) (add-number f x y n v))

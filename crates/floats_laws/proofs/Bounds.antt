@@ -10,8 +10,7 @@ use lib.Pow.{pow-pos}
 use lib.Ieee.{Float, nan, inf, fin, Format, prec, up, down, round, add, sub, neg, sum, mul, div, lt, ofInt, isNan, unlike}
 use lib.Ieee.Fits.{down-pos}
 use denote.Floats.{passes}
-use Rattle.floats.specs.Choose.{max, abs}
-use Rattle.floats.specs.Convert.{convert}
+use Rattle.floats.specs.Choose.{max}
 use Rattle.sequences.specs.Pick.{by-case}
 use Rattle.floats_laws.proofs.Mag.{Mag, Upto, Least, least-pos, within, within-upto}
 
@@ -22,14 +21,8 @@ neg-mag nan k h = h
 neg-mag (inf s) k h = h
 neg-mag (fin s m e) k h = h
 
-pub abs-upto : (x : Float) (k : ℕ) → Mag x k → Upto (abs x) k
-unfolding abs
-abs-upto nan k h = h
-abs-upto (inf s) k h = h
-abs-upto (fin s m e) k h = h
-
 -- ---- a choice has what both have
-chosen : (P : Float → Type 0) (b : Bool) (x y : Float) → P x → P y → P (cond b x y)
+pub chosen : (P : Float → Type 0) (b : Bool) (x y : Float) → P x → P y → P (cond b x y)
 chosen P true x y p q = p
 chosen P false x y p q = q
 
@@ -46,8 +39,13 @@ module _ (x y : Float) (k : ℕ) where
 more-than : (a b m n c : ℕ) → a ≤ m * c → b ≤ n * c → a + b ≤ (m + n) * c
 more-than a b m n c h g = rw (add-mul m n c) (omega arith)
 
-scaled : (x v w m : ℕ) → x ≤ m * v → x * w ≤ m * (v * w)
+pub scaled : (x v w m : ℕ) → x ≤ m * v → x * w ≤ m * (v * w)
 scaled x v w m h = le-trans (mul-le-mul-right w h) (le-of-eq (mul-assoc m v w))
+
+-- what is above 0 has digits that are not 0
+pub nonzero : (n : ℕ) (d : ℤ) → 0 < n * up d → eqb n 0 ≡ true → ⊥
+nonzero zero d h q = omega (arith, zero-mul (up d))
+nonzero (suc n) d h q = let e : suc n ≡ 0 = eqb→eq (suc n) 0 (passes _ q) in omega arith
 
 module _ (f : Format) where
   part : (s : Bool) (x a b c m n : ℕ) → 0 < c → m + n ≤ 2 ^ prec f → x ≤ a + b → a ≤ m * c → b ≤ n * c → Mag (round f s x c) (m + n)
@@ -126,10 +124,6 @@ module _ (f : Format) where
   mul-upto (fin false m e) (fin true n d) a b K h g = absurd g
   mul-upto (fin false m e) (fin false n d) a b K h g = within-upto f (m * up e * (n * up d)) (down e * down d) (a * b) (mul-pos (down-pos e) (down-pos d)) K (crossed (m * up e) (down e) (n * up d) (down d) a b h g)
 
-  nonzero : (n : ℕ) (d : ℤ) → 0 < n * up d → eqb n 0 ≡ true → ⊥
-  nonzero zero d h q = omega (arith, zero-mul (up d))
-  nonzero (suc n) d h q = let e : suc n ≡ 0 = eqb→eq (suc n) 0 (passes _ q) in omega arith
-
   ratio : (x v n w a j : ℕ) → x ≤ a * v → w ≤ j * n → x * w ≤ a * j * (n * v)
   ratio x v n w a j h g = le-trans (mul-le-mul h g) (le-of-eq (mul-mul-mul-comm a v j n ∙ ap (λ (z : ℕ). a * j * z) (mul-comm v n)))
 
@@ -145,33 +139,7 @@ module _ (f : Format) where
       by-case (eqb n 0) (λ q. absurd (nonzero n d P q))
       (λ q. rw q (within f (unlike s false) (m * up e * down d) (n * up d * down e) (a * j) (mul-pos P (down-pos e)) K (ratio (m * up e) (down e) (n * up d) (down d) a j h g)))
 
-  pub div-upto : (x y : Float) (a j : ℕ) → a * j ≤ 2 ^ prec f → Upto x a → Least y j → Upto (div f x y) (a * j)
-  unfolding div
-  div-upto nan y a j K h g = absurd h
-  div-upto (inf s) y a j K h g = absurd h
-  div-upto (fin true m e) y a j K h g = absurd h
-  div-upto (fin false m e) nan a j K h g = absurd g
-  div-upto (fin false m e) (inf t) a j K h g = absurd g
-  div-upto (fin false m e) (fin true n d) a j K h g = absurd g
-  div-upto (fin false m e) (fin false n d) a j K h g =
-      let P : 0 < n * up d = least-pos j (n * up d) (down d) (down-pos d) g in
-      by-case (eqb n 0) (λ q. absurd (nonzero n d P q))
-      (λ q. rw q (within-upto f (m * up e * down d) (n * up d * down e) (a * j) (mul-pos P (down-pos e)) K (ratio (m * up e) (down e) (n * up d) (down d) a j h g)))
-
   -- ---- conversions
   pub of-upto : (n k : ℕ) → k ≤ 2 ^ prec f → n ≤ k → Upto (ofInt f (pos n)) k
   unfolding ofInt
   of-upto n k K h = within-upto f n 1 k (pow-pos 0) K (omega arith)
-
-  pub convert-mag : (x : Float) (k : ℕ) → k ≤ 2 ^ prec f → Mag x k → Mag (convert f x) k
-  unfolding convert
-  convert-mag nan k K h = h
-  convert-mag (inf s) k K h = h
-  convert-mag (fin s m e) k K h = within f s (m * up e) (down e) k (down-pos e) K h
-
-  pub convert-upto : (x : Float) (k : ℕ) → k ≤ 2 ^ prec f → Upto x k → Upto (convert f x) k
-  unfolding convert
-  convert-upto nan k K h = h
-  convert-upto (inf s) k K h = h
-  convert-upto (fin true m e) k K h = absurd h
-  convert-upto (fin false m e) k K h = within-upto f (m * up e) (down e) k (down-pos e) K h

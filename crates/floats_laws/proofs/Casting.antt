@@ -1,4 +1,4 @@
--- The casts, over the format: what fits stays, and each cast rises with what it casts.
+-- The casts, over the format: each rises with what it casts.
 use Prim.Native.Nat.{ℕ, _*_, _/_, _^_, _-_, _≤_, min, zero-le}
 use native.Mathlib.Nat.{zero-mul, zero-div}
 use native.Mathlib.Omega.{arith}
@@ -7,12 +7,11 @@ use mathlib.Core.Bool.{Bool, true, false, not}
 use lib.IntN.{ℤ, pos}
 use lib.Dec.{T, eqb, eqb→eq}
 use lib.Pow.{pow-pos}
-use lib.Ieee.{Float, nan, inf, fin, Format, up, down, round, ofInt, toUnsigned, lt, le, eq, fits, isNan}
+use lib.Ieee.{Float, nan, inf, fin, Format, up, down, round, ofInt, toUnsigned, lt, le, eq, isNan}
 use lib.Ieee.Fits.{down-pos, round-fits, and-r}
 use lib.Ieee.Nearest.{div-mono}
 use lib.Ieee.Order.{round-mono}
 use Rattle.floats.specs.Convert.{convert}
-use Rattle.floats.proofs.Values.{own-round}
 use Rattle.floats.proofs.Rounded.{round-number}
 use Rattle.floats_laws.proofs.Mono.{signed-key-rises, round-signed-key, le→signed, plus, minus}
 use Rattle.floats_laws.proofs.Rules.{key→le, le-left, le-right}
@@ -20,18 +19,6 @@ use Rattle.floats_laws.proofs.Rising.{lowest, highest, le-refl, past-hi
 use Rattle.floats_laws.proofs.Mag.{le-of}
 
 module _ (f : Format) where
-  pub convert-own : (x : Float) → T (fits f x) → convert f x ≡ x
-  unfolding convert
-  convert-own nan p = refl
-  convert-own (inf s) p = refl
-  convert-own (fin s m e) p = own-round f s m e p
-
-  pub convert-fits : (x : Float) → T (fits f (convert f x))
-  unfolding convert fits
-  convert-fits nan = tt
-  convert-fits (inf s) = tt
-  convert-fits (fin s m e) = round-fits f s (m * up e) (down e)
-
   pub convert-number : (x : Float) → T (not (isNan x)) → T (not (isNan (convert f x)))
   unfolding convert isNan
   convert-number nan u = u

@@ -18,11 +18,8 @@ use Rattle.floats_laws.proofs.Keys.{over, side, mag, key}
 use Rattle.floats_laws.proofs.Mono.{roundedSize, rounded-size-rises, round-side}
 use Rattle.floats_laws.proofs.Rules.{key→le, not-lt→le, lt→le, add-number, neg-finite, finite-number, between-finite}
 use Rattle.floats_laws.proofs.Rising.{nought, add-rises, not-above, not-itself}
+use Rattle.floats_laws.proofs.Units.{zero-fits}
 use Rattle.sequences.specs.Pick.{by-case}
-
-pub nought-fits : (f : Format) → T (fits f nought)
-unfolding fits
-nought-fits f = tt
 
 module _ (f : Format) (s : Bool) (a : ℕ) (e : ℤ) (n : ℕ) (d : ℤ) (q : T (fits f (fin false (suc n) d))) where
   abbrev m : Float
@@ -99,7 +96,7 @@ module _ (f : Format) (s : Bool) (a : ℕ) (e : ℤ) (n : ℕ) (d : ℤ) (q : T 
       ∙ ap (λ (b : Bool). round f b (z - z) (down d * down d)) (le-ltb z z (le-of-eq refl))
       ∙ ap (λ (w : ℕ). round f false w (down d * down d)) (sub-self z)
       ∙ round-same f false 0 (down d * down d) (0 * 2 ^ 0) 1 (mul-pos (down-pos d) (down-pos d)) (zero-lt-suc 0) (zero-mul 1 ∙ sym (zero-mul (down d * down d)))
-      ∙ own-round f false 0 (pos 0) (nought-fits f)
+      ∙ own-round f false 0 (pos 0) (zero-fits f false)
 
   own-sum : add f nought m ≡ m
   unfolding add sum
@@ -125,7 +122,7 @@ module _ (f : Format) (s : Bool) (a : ℕ) (e : ℤ) (n : ℕ) (d : ℤ) (q : T 
         subst (λ (z : Float). T (le z (add f r m))) no-sum (add-rises f (neg m) r m rem-least (sum-number (neg m) (neg-finite f m tt)) (sum-number r finite-rem)),
         subst (λ (z : Float). T (le (add f r m) z)) own-sum (add-rises f r nought m (lt→le r nought h) (sum-number r finite-rem) (sum-number nought tt)),
       ))
-      (λ h. rw h (not-lt→le f r nought rem-fits (nought-fits f) rem-number (finite-number f nought tt) h, rem-most))
+      (λ h. rw h (not-lt→le f r nought rem-fits (zero-fits f false) rem-number (finite-number f nought tt) h, rem-most))
 
 pub euclid-within : (f : Format) (x m : Float) → T (fits f m) → T (finite x) → T (finite m) → T (lt nought m) → T (le nought (remEuclid f x m)) × T (le (remEuclid f x m) m)
 euclid-within f nan m q u v h = absurd u

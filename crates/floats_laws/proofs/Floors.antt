@@ -2,15 +2,17 @@
 use Prim.Native.Nat.{ℕ, _+_, _-_, _*_, _≤_, _<_}
 use native.Mathlib.Nat.{le-of-mul-le-mul-right, add-mul}
 use native.Mathlib.Omega.{arith}
-use mathlib.Core.Path.{_≡_, refl, sym, ap, _∙_, subst}
+use mathlib.Core.Path.{_≡_, refl, subst}
 use mathlib.Core.Bool.{true, false}
 use lib.Dec.{T}
 use lib.Ieee.{Float, nan, inf, fin, binary32, up, down, fits}
 use lib.Ieee.Exact.{HasValue}
 use lib.Ieee.Fits.{down-pos}
 use Rattle.floats.specs.Whole.{floor, ceil}
-use Rattle.floats_laws.proofs.Integral.{one-more, lift-most, floor-is, ceil-is-up}
+use Rattle.floats.proofs.Floor.{up-one}
+use Rattle.floats_laws.proofs.Integral.{lift-most, floor-is, ceil-is-up}
 use Rattle.floats_laws.proofs.Mag.{Mag}
+use Rattle.floats_laws.proofs.Mono.{times}
 use Rattle.floats_laws.proofs.Wholes.{At}
 use Rattle.floats_laws.proofs.Eighths.{From, To}
 
@@ -26,10 +28,6 @@ negative-at y n l v = record { sign = true; n = n; is = v; place = omega arith }
 
 same : {y : Float} {i k : ℕ} → i ≡ k → At y i → At y k
 same {y} e p = subst (At y) e p
-
--- a difference, times d
-back : (i n d : ℕ) → n ≤ i → (i - n) * d + n * d ≡ i * d
-back i n d h = sym (add-mul (i - n) n d) ∙ ap (λ (z : ℕ). z * d) (omega arith)
 
 -- ---- y, the floor of x, is k - 1000
 pub record Down (b : ℕ) (x y : Float) : Type 0 where
@@ -50,7 +48,7 @@ floor-down (fin false m e) b f u h =
       k = 1000 + w .n;
       at = positive-at _ (w .n) (w .exact);
       from = omega (arith, add-mul 1000 (w .n) (down e), w .next .0);
-      short = λ g. omega (arith, add-mul 1000 (w .n) (down e), one-more (w .n) (down e), w .next .1);
+      short = λ g. omega (arith, add-mul 1000 (w .n) (down e), up-one (w .n) (down e), w .next .1);
       least = omega arith;
       most = omega arith;
     }
@@ -60,8 +58,8 @@ floor-down (fin true m e) b f u h =
     record {
       k = 1000 - w .n;
       at = negative-at _ (w .n) (omega arith) (w .exact);
-      from = omega (arith, back 1000 (w .n) (down e) (omega arith), w .next .0);
-      short = λ g. omega (arith, back 1000 (w .n) (down e) (omega arith), w .next .1);
+      from = omega (arith, times 1000 (w .n) (down e) (omega arith), w .next .0);
+      short = λ g. omega (arith, times 1000 (w .n) (down e) (omega arith), w .next .1);
       least = omega arith;
       most = omega arith;
     }
@@ -95,8 +93,8 @@ ceil-up (fin true m e) b f u h =
     record {
       j = 999 - w .n;
       at = same (omega arith) (negative-at _ (w .n) (omega arith) (w .exact));
-      to = omega (arith, back 999 (w .n) (down e) (omega arith), w .next .0);
-      past = λ g. omega (arith, back 999 (w .n) (down e) (omega arith), one-more (w .n) (down e), w .next .1);
+      to = omega (arith, times 999 (w .n) (down e) (omega arith), w .next .0);
+      past = λ g. omega (arith, times 999 (w .n) (down e) (omega arith), up-one (w .n) (down e), w .next .1);
       least = omega arith;
       most = omega arith;
     }

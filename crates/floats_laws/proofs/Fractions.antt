@@ -1,21 +1,20 @@
 -- Bounds by fractions, over the format: `Under x n c`, x is finite and at most n / c in size. A fraction that the format holds passes through each operation.
-use Prim.Native.Nat.{ℕ, zero, suc, _+_, _-_, _*_, _^_, _≤_, _<_}
-use native.Mathlib.Nat.{le-trans, le-of-eq, lt-of-lt-of-le, mul-comm, mul-assoc, mul-right-comm, mul-mul-mul-comm, mul-one, zero-mul, add-mul, mul-pos, mul-le-mul, mul-le-mul-right, mul-le-mul-left, mul-lt-mul-of-pos-right, le-of-mul-le-mul-right}
+use Prim.Native.Nat.{ℕ, suc, _+_, _-_, _*_, _^_, _≤_, _<_}
+use native.Mathlib.Nat.{le-trans, le-of-eq, lt-of-lt-of-le, mul-comm, mul-assoc, mul-right-comm, mul-mul-mul-comm, mul-one, add-mul, mul-pos, mul-le-mul, mul-le-mul-right, mul-le-mul-left, mul-lt-mul-of-pos-right, le-of-mul-le-mul-right}
 use native.Mathlib.Omega.{arith}
 use mathlib.Core.Path.{_≡_, sym, ap, _∙_, subst}
 use mathlib.Core.Bool.{Bool, true, false, cond, _&&_, Bool·beq, true≢false}
-use lib.IntN.{ℤ}
-use lib.Dec.{T, ltb, eqb, eqb→eq, lit≤}
+use lib.Dec.{T, ltb, eqb, lit≤}
 use lib.Pow.{pow-pos, pow-add, pow-mono}
 use lib.Ieee.{Float, nan, inf, fin, Format, binary32, binary64, prec, emax, low, up, down, round, add, neg, sum, mul, div, le, lt, eq, unlike}
 use lib.Ieee.Exact.{HasValue, round-exact}
 use lib.Ieee.Fits.{down-pos}
 use lib.Ieee.Order.{round-mono}
 use lib.Ieee.Scale.{finite}
-use denote.Floats.{passes}
 use Rattle.sequences.specs.Pick.{by-case}
 use Rattle.floats.proofs.Values.{neg-round}
 use Rattle.floats_laws.proofs.Mag.{Mag, Upto, le-of, within-upto}
+use Rattle.floats_laws.proofs.Bounds.{chosen, nonzero}
 
 abbrev pub Under : Float → ℕ → ℕ → Type 0
 Under nan n c = ⊥
@@ -69,7 +68,7 @@ held f s a j n e h =
     (ap (λ (z : ℕ). n * 2 ^ z) (sym e) ∙ ap (λ (z : ℕ). n * z) (pow-add 2 a j) ∙ sym (mul-assoc n (2 ^ a) (2 ^ j)))
 
 -- ---- rounding
-less : (x v n q k c : ℕ) → 0 < q → x * q ≤ n * v → n * c ≡ k * q → x * c ≤ k * v
+pub less : (x v n q k c : ℕ) → 0 < q → x * q ≤ n * v → n * c ≡ k * q → x * c ≤ k * v
 less x v n q k c Q h e = le-of-mul-le-mul-right (le-trans (le-of-eq (mul-right-comm x c q)) (le-trans (mul-le-mul-right c h) (le-of-eq (mul-right-comm n v c ∙ ap (λ (z : ℕ). z * v) e ∙ mul-right-comm k q v)))) Q
 
 bounded : (x y : Float) (n c k : ℕ) → T (le x y) → HasValue y false n c → Upto x k → Under x n c
@@ -95,10 +94,6 @@ module _ (f : Format) where
   pub round-under : (s : Bool) (a b n c : ℕ) → 0 < b → Holds n c → a * c ≤ n * b → Under (round f s a b) n c
   round-under false a b n c B v h = plain-under a b n c B v h
   round-under true a b n c B v h = subst (λ (x : Float). Under x n c) (neg-round f false a b) (under-neg (round f false a b) n c (plain-under a b n c B v h))
-
-  chosen : (P : Float → Type 0) (b : Bool) (x y : Float) → P x → P y → P (cond b x y)
-  chosen P true x y p q = p
-  chosen P false x y p q = q
 
   -- ---- sums
   both : (a b m n c d : ℕ) → a * c ≤ m * d → b * c ≤ n * d → (a + b) * c ≤ (m + n) * d
@@ -152,10 +147,6 @@ module _ (f : Format) where
       (le-trans (mul-le-mul-right l (mul-le-mul h (le-trans (le-of-eq (mul-comm w n)) g)))
       (le-trans (le-of-eq (mul-right-comm (m * v) y l ∙ ap (λ (z : ℕ). z * y) (mul-right-comm m v l)))
       (le-trans (mul-le-mul-right y (mul-le-mul-right v q)) (le-of-eq (mul-right-comm (k * (c * n)) v y ∙ mul-assoc (k * (c * n)) y v ∙ mul-right-comm k (c * n) (y * v))))))) C
-
-  nonzero : (n : ℕ) (d : ℤ) → 0 < n * up d → eqb n 0 ≡ true → ⊥
-  nonzero zero d h q = omega (arith, zero-mul (up d))
-  nonzero (suc n) d h q = let e : suc n ≡ 0 = eqb→eq (suc n) 0 (passes _ q) in omega arith
 
   pub div-under : (x y : Float) (m c n k l : ℕ) → 0 < c → 0 < n → Holds k l → m * l ≤ k * (c * n) → Under x m c → Above y n → Under (div f x y) k l
   unfolding div

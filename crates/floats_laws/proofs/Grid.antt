@@ -1,19 +1,19 @@
 -- Bounds by multiples of 2^-24 in f32: what is at most k / 2^24, k at most 2^24, stays so when it is rounded, and what is at most 1 + 2^-24 is rounded to 1 at most.
 use Prim.Native.Nat.{ℕ, _+_, _*_, _^_, _≤_, _<_}
-use native.Mathlib.Nat.{le-trans, le-of-eq, mul-one, mul-assoc, mul-right-comm, mul-le-mul-left, mul-le-mul-right, mul-lt-mul-of-pos-right, lt-of-lt-of-le, le-of-mul-le-mul-right, eq-or-lt-of-le}
-use native.Mathlib.Omega.{arith}
-use mathlib.Core.Path.{_≡_, refl, sym, ap, _∙_, subst}
+use native.Mathlib.Nat.{le-trans, le-of-eq, mul-one, mul-le-mul-left, eq-or-lt-of-le}
+use mathlib.Core.Path.{_≡_, refl, sym, subst}
 use mathlib.Core.Logic.{inl, inr}
 use mathlib.Core.Bool.{true, false, true≢false}
-use lib.IntN.{pos}
 use lib.Dec.{T}
-use lib.Pow.{pow-pos, pow-add, pow-mono}
+use lib.Pow.{pow-pos}
 use lib.Ieee.{Float, nan, inf, fin, binary32, up, down, round, lt, le, eq}
 use lib.Ieee as Ieee
-use lib.Ieee.Exact.{HasValue, round-exact}
+use lib.Ieee.Exact.{HasValue}
 use lib.Ieee.Fits.{down-pos}
 use lib.Ieee.Order.{round-mono}
 use Rattle.floats_laws.proofs.Mag.{Upto, le-of, within-upto}
+use Rattle.floats_laws.proofs.Units.{one as i}
+use Rattle.floats_laws.proofs.Fractions.{held, less}
 
 -- x has no sign, and is at most a / c
 abbrev pub AtMost : Float → ℕ → ℕ → Type 0
@@ -21,9 +21,6 @@ AtMost nan a c = ⊥
 AtMost (inf s) a c = ⊥
 AtMost (fin true m e) a c = ⊥
 AtMost (fin false m e) a c = m * up e * c ≤ a * down e
-
-abbrev i : Float
-i = fin false 1 (pos 0)
 
 one-is : round binary32 false (2 ^ 24) (2 ^ 24) ≡ i
 unfolding round Ieee.units Ieee.odd Ieee.size Ieee.span Ieee.climb
@@ -38,34 +35,25 @@ pub to-one : (a b : ℕ) → 0 < b → a * 2 ^ 24 ≤ (2 ^ 24 + 1) * b → T (le
 to-one a b B h = subst (λ (x : Float). T (le (round binary32 false a b) x)) past-one (round-mono binary32 a b (2 ^ 24 + 1) (2 ^ 24) B (pow-pos 24) h)
 
 -- ---- a multiple of 2^-24 of few enough digits is a float
-multiple : (a j k : ℕ) → a + j ≡ 149 → k < 2 ^ 24 → HasValue (round binary32 false k (2 ^ j)) false k (2 ^ j)
-multiple a j k e h =
-    round-exact binary32 false k (2 ^ j) k a (pow-pos j) h
-    (lt-of-lt-of-le (mul-lt-mul-of-pos-right h (pow-pos a)) (subst (λ (z : ℕ). z ≤ 2 ^ 277) (pow-add 2 24 a) (pow-mono {i = 24 + a} {j = 277} (omega arith))))
-    (ap (λ (z : ℕ). k * 2 ^ z) (sym e) ∙ ap (λ (z : ℕ). k * z) (pow-add 2 a j) ∙ sym (mul-assoc k (2 ^ a) (2 ^ j)))
-
 up-to : (j k : ℕ) → ((k ≡ 2 ^ 24) → HasValue (round binary32 false k (2 ^ j)) false k (2 ^ j)) → ((k < 2 ^ 24) → HasValue (round binary32 false k (2 ^ j)) false k (2 ^ j))
     → k ≤ 2 ^ 24 → HasValue (round binary32 false k (2 ^ j)) false k (2 ^ j)
 up-to j k p q h = elim (eq-or-lt-of-le h) [ inl e ↦ p e | inr l ↦ q l ]
 
 pub multiple-24 : (k : ℕ) → k ≤ 2 ^ 24 → HasValue (round binary32 false k (2 ^ 24)) false k (2 ^ 24)
-multiple-24 k = up-to 24 k (λ e. rw (e, one-is) (refl, refl)) (multiple 125 24 k refl)
+multiple-24 k = up-to 24 k (λ e. rw (e, one-is) (refl, refl)) (held binary32 false 125 24 k refl)
 
 -- ---- what is at most such a multiple is so after rounding
-less : (x v n q k c : ℕ) → 0 < q → 0 < c → x * q ≤ n * v → n * c ≡ k * q → x * c ≤ k * v
-less x v n q k c Q C h e = le-of-mul-le-mul-right (le-trans (le-of-eq (mul-right-comm x c q)) (le-trans (mul-le-mul-right c h) (le-of-eq (mul-right-comm n v c ∙ ap (λ (z : ℕ). z * v) e ∙ mul-right-comm k q v)))) Q
-
-bounded : (x y : Float) (k c : ℕ) → 0 < c → T (le x y) → HasValue y false k c → Upto x k → AtMost x k c
+bounded : (x y : Float) (k c : ℕ) → T (le x y) → HasValue y false k c → Upto x k → AtMost x k c
 unfolding le lt eq
-bounded nan y k c C h v p = absurd p
-bounded (inf s) y k c C h v p = absurd p
-bounded (fin true m e) y k c C h v p = absurd p
-bounded (fin false m e) nan k c C h v p = absurd v
-bounded (fin false m e) (inf t) k c C h v p = absurd v
-bounded (fin false m e) (fin true n d) k c C h v p = absurd (true≢false (v .0))
-bounded (fin false m e) (fin false n d) k c C h v p = less (m * up e) (down e) (n * up d) (down d) k c (down-pos d) C (le-of (m * up e * down d) (n * up d * down e) h) (v .1)
+bounded nan y k c h v p = absurd p
+bounded (inf s) y k c h v p = absurd p
+bounded (fin true m e) y k c h v p = absurd p
+bounded (fin false m e) nan k c h v p = absurd v
+bounded (fin false m e) (inf t) k c h v p = absurd v
+bounded (fin false m e) (fin true n d) k c h v p = absurd (true≢false (v .0))
+bounded (fin false m e) (fin false n d) k c h v p = less (m * up e) (down e) (n * up d) (down d) k c (down-pos d) (le-of (m * up e * down d) (n * up d * down e) h) (v .1)
 
 pub round-at-most : (a b k c : ℕ) → 0 < b → 0 < c → k ≤ 2 ^ 24 → a * c ≤ k * b → HasValue (round binary32 false k c) false k c → AtMost (round binary32 false a b) k c
 round-at-most a b k c B C K h v =
-    bounded (round binary32 false a b) (round binary32 false k c) k c C (round-mono binary32 a b k c B C h) v
+    bounded (round binary32 false a b) (round binary32 false k c) k c (round-mono binary32 a b k c B C h) v
     (within-upto binary32 a b k B K (le-trans (le-trans (le-of-eq (sym (mul-one a))) (mul-le-mul-left a C)) h))

@@ -1,6 +1,6 @@
 -- `floor` and `ceil` are IEEE 754's rounding to a whole number, over the format: the only floats next to x as `Floored` and `Ceiled` say, and they never fall as x rises.
 use Prim.Native.Nat.{ℕ, suc, _+_, _-_, _*_, _/_, _^_, _≤_, _<_}
-use native.Mathlib.Nat.{le-trans, le-of-eq, lt-of-le-of-lt, le-of-suc-le-suc, le-antisymm, mul-one, one-mul, add-mul, zero-mul, mul-right-comm, mul-le-mul-right, le-of-mul-le-mul-right, lt-of-mul-lt-mul-right, div-add-mod', mod-lt, div-le-self, div-one, zero-div}
+use native.Mathlib.Nat.{le-trans, le-of-eq, lt-of-le-of-lt, le-of-suc-le-suc, le-antisymm, mul-one, zero-mul, mul-right-comm, mul-le-mul-right, le-of-mul-le-mul-right, lt-of-mul-lt-mul-right, div-add-mod', mod-lt, div-le-self, div-one, zero-div}
 use native.Mathlib.Omega.{arith}
 use mathlib.Core.Path.{_≡_, refl, sym, ap, _∙_, subst}
 use mathlib.Core.Bool.{Bool, true, false, not}
@@ -14,23 +14,20 @@ use lib.Ieee.Back.{round-whole}
 use lib.Ieee.Nearest.{div-mono}
 use Rattle.floats.specs.Whole.{floor, ceil, cut, lift, Cut, Lifted, Whole, Floored, Ceiled}
 use Rattle.floats.proofs.Values.{fine, unique}
-use Rattle.floats.proofs.Floor.{kept, lift-le, ceil-is, floor-fits, floor-number}
+use Rattle.floats.proofs.Floor.{kept, lift-le, ceil-is, floor-fits, floor-number, up-one}
 use Rattle.floats_laws.proofs.Keys.{key}
 use Rattle.floats_laws.proofs.Mono.{plus, minus, signedKey, signed-key-rises, round-signed-key, le→signed}
 use Rattle.floats_laws.proofs.Rules.{key→le, le-left, le-right}
 use Rattle.floats_laws.proofs.Rising.{le-refl, lowest, highest, past-lowest, past-highest, neg-falls}
 
 -- ---- the two quotients
-pub one-more : (n d : ℕ) → (n + 1) * d ≡ n * d + d
-one-more n d = add-mul n 1 d ∙ ap (λ (z : ℕ). n * d + z) (one-mul d)
-
 cuts : (a d : ℕ) → 0 < d → Cut a d (a / d)
-cuts a d D = (omega (arith, div-add-mod' a d), omega (arith, div-add-mod' a d, mod-lt a D, one-more (a / d) d))
+cuts a d D = (omega (arith, div-add-mod' a d), omega (arith, div-add-mod' a d, mod-lt a D, up-one (a / d) d))
 
 lifts : (a d : ℕ) → 0 < d → Lifted a d ((a + (d - 1)) / d)
 lifts a d D =
     let q = (a + (d - 1)) / d in
-    (omega (arith, div-add-mod' (a + (d - 1)) d, mod-lt (a + (d - 1)) D, one-more q d), omega (arith, div-add-mod' (a + (d - 1)) d))
+    (omega (arith, div-add-mod' (a + (d - 1)) d, mod-lt (a + (d - 1)) D, up-one q d), omega (arith, div-add-mod' (a + (d - 1)) d))
 
 -- each is the only whole number there
 less : (n p d x : ℕ) → n * d ≤ x → x < (p + 1) * d → n ≤ p
@@ -40,7 +37,7 @@ one-cut : (a d n p : ℕ) → Cut a d n → Cut a d p → n ≡ p
 one-cut a d n p h k = le-antisymm (less n p d a (h .0) (k .1)) (less p n d a (k .0) (h .1))
 
 pub lift-most : (a d n p : ℕ) → n * d < a + d → a ≤ p * d → n ≤ p
-lift-most a d n p h k = le-of-suc-le-suc (let g : n < p + 1 = lt-of-mul-lt-mul-right d (omega (arith, one-more p d)) in omega arith)
+lift-most a d n p h k = le-of-suc-le-suc (let g : n < p + 1 = lt-of-mul-lt-mul-right d (omega (arith, up-one p d)) in omega arith)
 
 one-lift : (a d n p : ℕ) → Lifted a d n → Lifted a d p → n ≡ p
 one-lift a d n p h k = le-antisymm (lift-most a d n p (h .1) (k .0)) (lift-most a d p n (k .1) (h .0))

@@ -10,12 +10,12 @@ use lib.IntN.{ℤ}
 use lib.Dec.{T, ltb, eqb, eqb→eq, eqb-refl, ltb→lt, lt→ltb}
 use lib.Pow.{pow-pos}
 use lib.Ieee.{Float, nan, inf, fin, Format, prec, emax, low, up, down, odd, units, round, lt, eq, le}
-use lib.Ieee.Fits.{down-pos, round-is, and-l, and-r}
+use lib.Ieee.Fits.{down-pos, round-is, and-l, and-r, and-i}
 use lib.Ieee.Exact.{HasValue}
 use lib.Ieee.Back.{round-whole}
 use lib.Ieee.Order.{round-mono}
 use lib.Ieee.Scale.{finite}
-use Rattle.floats_laws.proofs.Rising.{nought}
+use Rattle.floats_laws.proofs.Rising.{nought, or-left, or-right}
 
 abbrev pub Mag : Float → ℕ → Type 0
 Mag nan k = ⊥
@@ -49,12 +49,6 @@ pub mag-more : (x : Float) (j k : ℕ) → j ≤ k → Mag x j → Mag x k
 mag-more nan j k l h = h
 mag-more (inf s) j k l h = h
 mag-more (fin s m e) j k l h = le-trans h (mul-le-mul-right (down e) l)
-
-pub upto-more : (x : Float) (j k : ℕ) → j ≤ k → Upto x j → Upto x k
-upto-more nan j k l h = h
-upto-more (inf s) j k l h = h
-upto-more (fin true m e) j k l h = h
-upto-more (fin false m e) j k l h = le-trans h (mul-le-mul-right (down e) l)
 
 -- ---- rounding keeps the sign
 abbrev Plain : Float → Type 0
@@ -177,32 +171,17 @@ le-upto (fin true m e) (fin false n d) k p h U =
 le-upto (fin false m e) (fin false n d) k p h U =
     le-of-mul-le-mul-right (le-trans (le-of (m * up e * down d) (n * up d * down e) h) (le-trans (mul-le-mul-right (down e) U) (le-of-eq (mul-right-comm k (down d) (down e))))) (down-pos d)
 
+-- `le` of two numbers that are not negative, as `lt` and `eq` have it
+pub of-le : (a b : ℕ) → a ≤ b → T (ltb a b || (eqb a b && true))
+of-le a b h = elim (eq-or-lt-of-le h) [ inl p ↦ or-right (ltb a b) _ (subst (λ (x : ℕ). T (eqb a x && true)) p (and-i (eqb a a) true (eqb-refl a) tt)) | inr q ↦ or-left (ltb a b) _ (lt→ltb a b q) ]
+
 -- at most k in size is at most the float k
-of-le : (a b : ℕ) → a ≤ b → T (ltb a b || (eqb a b && true))
-of-le a b h = elim (eq-or-lt-of-le h) [ inl p ↦ right (ltb a b) (subst (λ (x : ℕ). T (eqb a x && true)) p (both (eqb a a) (eqb-refl a))) | inr q ↦ left (ltb a b) (lt→ltb a b q) ]
-  where
-    left : (c : Bool) → T c → T (c || (eqb a b && true))
-    left true t = tt
-    left false t = absurd t
-
-    right : (c : Bool) → T (eqb a b && true) → T (c || (eqb a b && true))
-    right true t = tt
-    right false t = t
-
-    both : (c : Bool) → T c → T (c && true)
-    both true t = tt
-    both false t = t
-
 pub mag-le : (x : Float) (n : ℕ) (d : ℤ) (k : ℕ) → 0 < k → k * down d ≤ n * up d → Mag x k → T (le x (fin false n d))
 unfolding le lt eq
 mag-le nan n d k K h M = absurd M
 mag-le (inf s) n d k K h M = absurd M
-mag-le (fin true m e) n d k K h M = left (ltb 0 (m * up e * down d + n * up d * down e)) _ (lt→ltb 0 (m * up e * down d + n * up d * down e) (more (m * up e * down d) (n * up d * down e) (mul-pos (lt-of-lt-of-le (mul-pos K (down-pos d)) h) (down-pos e))))
+mag-le (fin true m e) n d k K h M = or-left (ltb 0 (m * up e * down d + n * up d * down e)) _ (lt→ltb 0 (m * up e * down d + n * up d * down e) (more (m * up e * down d) (n * up d * down e) (mul-pos (lt-of-lt-of-le (mul-pos K (down-pos d)) h) (down-pos e))))
   where
-    left : (a b : Bool) → T a → T (a || b)
-    left true b t = tt
-    left false b t = absurd t
-
     more : (a b : ℕ) → 0 < b → 0 < a + b
     more a b h = omega arith
 mag-le (fin false m e) n d k K h M = of-le (m * up e * down d) (n * up d * down e) (le-trans (mul-le-mul-right (down d) M) (le-trans (le-of-eq (mul-right-comm k (down e) (down d))) (mul-le-mul-right (down e) h)))

@@ -58,7 +58,7 @@ rounded-size-zero f c C = ap (mag f) (round-same f false 0 c (0 * 2 ^ 0) 1 C (ze
 abbrev pub signedKey : Format → ℕ → ℕ → ℕ → ℕ
 signedKey f P N c = cond (ltb P N) (over f - roundedSize f (N - P) c) (over f + roundedSize f (P - N) c)
 
-times : (n p c : ℕ) → p ≤ n → (n - p) * c + p * c ≡ n * c
+pub times : (n p c : ℕ) → p ≤ n → (n - p) * c + p * c ≡ n * c
 times n p c h = sym (add-mul (n - p) p c) ∙ ap (λ (z : ℕ). z * c) (omega arith)
 
 pub signed-key-rises : (f : Format) (P N c P' N' c' : ℕ) → 0 < c → 0 < c' → P * c' + N' * c ≤ P' * c + N * c' → signedKey f P N c ≤ signedKey f P' N' c'

@@ -17,7 +17,7 @@ use Rattle.floats.proofs.Narrow.{no-nan}
 use Rattle.floats.proofs.Pack.{twice, inf-pattern}
 use Rattle.floats_laws.proofs.Patterns.{bits-mono}
 use Rattle.floats_laws.proofs.Rising.{highest}
-use Rattle.floats_laws.proofs.ToBits.{mag-mono}
+use Rattle.floats_laws.proofs.ToBits.{mag-mono, fewer}
 
 -- ---- patterns
 pub pattern-number : (f : Format) (p : ℕ) → p ≤ ones f * hid f → T (not (isNan (ofBits f p)))
@@ -41,9 +41,6 @@ bits-under f k m e h =
     let s : size n ≤ low f + k = size-le n (low f + k) (div-lt-iff-lt-mul (down-pos e) .1 wide) in
     sum-under (size n - prec f) (low f + k - prec f) (hid f) (n / 2 ^ (size n - prec f)) (2 ^ prec f) (fewer (size n) (low f + k) (prec f) s) (kept-lt (prec f) n) (twice f)
   where
-    fewer : (a b p : ℕ) → a ≤ b → a - p ≤ b - p
-    fewer a b p l = omega arith
-
     sum-under : (a b g r w : ℕ) → a ≤ b → r < w → w ≡ 2 * g → 0 + a * g + r < (b + 2) * g
     sum-under a b g r w l q e = omega (arith, mul-le-mul-right g l, add-mul b 2 g)
 

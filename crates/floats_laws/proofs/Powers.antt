@@ -1,6 +1,6 @@
 -- Bounds by powers of two, which a format holds far past its digits, through sums and products; and a whole number's bound through `floor`.
 use Prim.Native.Nat.{ℕ, suc, _+_, _-_, _*_, _/_, _^_, _≤_, _<_}
-use native.Mathlib.Nat.{le-trans, le-of-eq, le-of-suc-le-suc, mul-comm, mul-assoc, mul-one, one-mul, add-mul, mul-mul-mul-comm, mul-pos, mul-le-mul, mul-le-mul-right, div-lt-iff-lt-mul}
+use native.Mathlib.Nat.{le-trans, le-of-eq, le-of-suc-le-suc, mul-comm, mul-assoc, mul-one, one-mul, add-mul, mul-mul-mul-comm, mul-pos, mul-le-mul, div-lt-iff-lt-mul}
 use native.Mathlib.Omega.{arith}
 use mathlib.Core.Path.{_≡_, sym, ap, _∙_, subst}
 use mathlib.Core.Bool.{Bool, true, false, cond, _&&_, Bool·beq}
@@ -12,14 +12,11 @@ use lib.Ieee.Fits.{down-pos}
 use lib.Ieee.Exact.{HasValue, round-exact}
 use Rattle.floats.specs.Whole.{cut, lift, floor}
 use Rattle.floats_laws.proofs.Mag.{Mag, within, round-mag}
+use Rattle.floats_laws.proofs.Bounds.{chosen, scaled}
 
 one-digit : (f : Format) → 1 < 2 ^ prec f
 one-digit binary32 = lit< tt
 one-digit binary64 = lit< tt
-
-chosen : (P : Float → Type 0) (b : Bool) (x y : Float) → P x → P y → P (cond b x y)
-chosen P true x y p q = p
-chosen P false x y p q = q
 
 module _ (f : Format) where
   power : (j : ℕ) → j ≤ emax f → HasValue (round f false (2 ^ j) 1) false (2 ^ j) 1
@@ -39,9 +36,6 @@ module _ (f : Format) where
 
       le-of-two : (a b k : ℕ) → a ≤ k → b ≤ k → a + b ≤ 2 * k
       le-of-two a b k h g = omega arith
-
-  scaled : (x v w m : ℕ) → x ≤ m * v → x * w ≤ m * (v * w)
-  scaled x v w m h = le-trans (mul-le-mul-right w h) (le-of-eq (mul-assoc m v w))
 
   sum-power : (s t : Bool) (a b c j : ℕ) → 0 < c → suc j ≤ emax f → a ≤ 2 ^ j * c → b ≤ 2 ^ j * c → Mag (sum f s a t b c) (2 ^ suc j)
   unfolding sum

@@ -24,9 +24,7 @@ use Rattle.floats_laws.proofs.Rising.{le-refl as float-refl, nought, ad
 use Rattle.floats_laws.proofs.Rules.{between-finite, finite-number, neg-finite, add-number, key→le, le-trans as float-trans}
 use Rattle.floats.proofs.Values.{own-round, neg-round}
 use Rattle.floats_laws.proofs.Grid.{AtMost, to-one, multiple-24, round-at-most}
-
-abbrev pub i : Float
-i = fin false 1 (pos 0)
+use Rattle.floats_laws.proofs.Units.{one as i, zero-fits, one-fits, unit}
 
 pub record Proportion (x : Float) : Type 0 where
   pub held : T (fits binary32 x)
@@ -43,23 +41,11 @@ module _ {x : Float} (u : Proportion x) where
   pub unit-mag : Mag x 1
   unit-mag = le-upto x i 1 (u .least) (u .most) (omega arith)
 
-pub i-fits : T (fits binary32 i)
-unfolding fits
-i-fits = tt
-
-pub nought-fits : T (fits binary32 nought)
-unfolding fits
-nought-fits = tt
-
-below-one : T (le nought i)
-unfolding le lt eq
-below-one = tt
-
-one-less-one : sub binary32 i i ≡ nought
+pub one-less-one : sub binary32 i i ≡ nought
 unfolding sub add neg Ieee.sum round Ieee.units Ieee.odd Ieee.size Ieee.span Ieee.climb
 one-less-one = refl
 
-one-less-nothing : sub binary32 i nought ≡ i
+pub one-less-nothing : sub binary32 i nought ≡ i
 unfolding sub add neg Ieee.sum round Ieee.units Ieee.odd Ieee.size Ieee.span Ieee.climb
 one-less-nothing = refl
 
@@ -76,11 +62,11 @@ unfolding add Ieee.sum round Ieee.units Ieee.odd Ieee.size Ieee.span Ieee.climb
 nothing-and-one = refl
 
 pub one-unit : Proportion i
-one-unit = record { held = i-fits; least = below-one; most = mag-le i 1 (pos 0) 1 (zero-lt-suc 0) (omega arith) (omega arith) }
+one-unit = record { held = one-fits binary32; least = unit; most = mag-le i 1 (pos 0) 1 (zero-lt-suc 0) (omega arith) (omega arith) }
 
 pub nought-unit : Proportion nought
 unfolding le lt eq
-nought-unit = record { held = nought-fits; least = tt; most = tt }
+nought-unit = record { held = zero-fits binary32 false; least = tt; most = tt }
 
 -- ---- products, and what is left of 1
 module _ {x y : Float} (u : Proportion x) (v : Proportion y) where
@@ -100,10 +86,10 @@ module _ {x : Float} (u : Proportion x) where
         held = sub-fits binary32 i x;
         least =
             subst (λ (z : Float). T (le z (sub binary32 i x))) one-less-one
-            (sub-falls binary32 i x i (u .held) i-fits (u .most) (one-number binary32 x (unit-number u)) (one-number binary32 i tt));
+            (sub-falls binary32 i x i (u .held) (one-fits binary32) (u .most) (one-number binary32 x (unit-number u)) (one-number binary32 i tt));
         most =
             subst (λ (z : Float). T (le (sub binary32 i x) z)) one-less-nothing
-            (sub-falls binary32 i nought x nought-fits (u .held) (u .least) (one-number binary32 nought tt) (one-number binary32 x (unit-number u)));
+            (sub-falls binary32 i nought x (zero-fits binary32 false) (u .held) (u .least) (one-number binary32 nought tt) (one-number binary32 x (unit-number u)));
       }
 
 -- ---- x and what is left of 1: by the stair of 2^-24 on which x lies
@@ -157,7 +143,7 @@ whole (fin true m e) u =
     let r = rest-unit u in
     let t = sub binary32 i x in
     let n = add-number binary32 nought t tt (unit-finite r) in
-    float-trans binary32 (add binary32 x t) (add binary32 nought t) i (add-fits binary32 x t) (add-fits binary32 nought t) i-fits
+    float-trans binary32 (add binary32 x t) (add binary32 nought t) i (add-fits binary32 x t) (add-fits binary32 nought t) (one-fits binary32)
     (add-rises binary32 x nought t (to-nought binary32 m e (u .held)) (add-number binary32 x t tt (unit-finite r)) n)
     (subst (λ (z : Float). T (le (add binary32 nought t) z)) nothing-and-one (add-rises-right binary32 nought t i (r .most) n (add-number binary32 nought i tt tt)))
 
@@ -248,7 +234,7 @@ module _ {x s : Float} (u : Proportion x) (v : Proportion s) where
         held = add-fits binary32 x part;
         least = sum-from-zero binary32 x part (unit-finite u) (unit-finite p) (u .least) (p .least);
         most =
-            float-trans binary32 (add binary32 x part) (add binary32 x rest) i (add-fits binary32 x part) (add-fits binary32 x rest) i-fits
+            float-trans binary32 (add binary32 x part) (add binary32 x rest) i (add-fits binary32 x part) (add-fits binary32 x rest) (one-fits binary32)
             (add-rises-right binary32 x part rest part-less (add-number binary32 x part (unit-number u) (unit-finite p)) (add-number binary32 x rest (unit-number u) (unit-finite r)))
             (whole x u);
       }
@@ -261,7 +247,7 @@ module _ {x s : Float} (u : Proportion x) (v : Proportion s) where
   unfolding isNan sub add
   fall-most =
       subst (λ (z : Float). T (le (sub binary32 nought x) z)) nothing-less-nothing
-      (sub-falls binary32 nought nought x nought-fits (u .held) (u .least) (add-number binary32 nought (neg nought) tt (neg-finite binary32 nought tt)) (add-number binary32 nought (neg x) tt (neg-finite binary32 x (unit-finite u))))
+      (sub-falls binary32 nought nought x (zero-fits binary32 false) (u .held) (u .least) (add-number binary32 nought (neg nought) tt (neg-finite binary32 nought tt)) (add-number binary32 nought (neg x) tt (neg-finite binary32 x (unit-finite u))))
 
   fall-finite : T (finite (sub binary32 nought x))
   fall-finite = mag-finite (sub binary32 nought x) 1 (sub-mag binary32 nought x 0 1 (omega arith) (omega arith) (unit-mag u))
@@ -286,10 +272,10 @@ module _ {x s : Float} (u : Proportion x) (v : Proportion s) where
       record {
         held = add-fits binary32 x gone;
         least =
-            float-trans binary32 nought (add binary32 x (neg x)) (add binary32 x gone) nought-fits (add-fits binary32 x (neg x)) (add-fits binary32 x gone) (nothing-left binary32 x (unit-finite u))
+            float-trans binary32 nought (add binary32 x (neg x)) (add binary32 x gone) (zero-fits binary32 false) (add-fits binary32 x (neg x)) (add-fits binary32 x gone) (nothing-left binary32 x (unit-finite u))
             (add-rises-right binary32 x (neg x) gone gone-least (add-number binary32 x (neg x) (unit-number u) (neg-finite binary32 x (unit-finite u))) n);
         most =
-            float-trans binary32 (add binary32 x gone) (add binary32 x nought) i (add-fits binary32 x gone) (add-fits binary32 x nought) i-fits
+            float-trans binary32 (add binary32 x gone) (add binary32 x nought) i (add-fits binary32 x gone) (add-fits binary32 x nought) (one-fits binary32)
             (add-rises-right binary32 x gone nought (product-to-zero binary32 (sub binary32 nought x) s fall-finite (unit-finite v) fall-most (v .least)) n z)
             (subst (λ (y : Float). T (le (add binary32 x nought) y)) one-and-nothing (add-rises binary32 x i nought (u .most) z (add-number binary32 i nought (unit-number one-unit) tt)));
       }

@@ -1,12 +1,12 @@
 -- One value as two fractions, and products with powers of two that are the same number.
 use mathlib.Core.Path.{_≡_, sym, ap, _∙_}
 use Prim.Native.Nat.{ℕ, _+_, _*_, _^_, _<_}
-use native.Mathlib.Nat.{mul-assoc, mul-right-comm, eq-of-mul-eq-mul-right}
+use native.Mathlib.Nat.{mul-right-comm, eq-of-mul-eq-mul-right}
 use mathlib.Core.Bool.{Bool}
-use lib.Pow.{pow-add}
 use lib.Ieee.{Float, nan, inf, fin, up, down}
 use lib.Ieee.Exact.{HasValue}
 use lib.Ieee.Fits.{down-pos}
+use Rattle.floats.proofs.Residues.{gathered}
 
 pub rescale : (x : Float) (s : Bool) (a c b d : ℕ) → 0 < c → b * c ≡ a * d → HasValue x s a c → HasValue x s b d
 rescale nan s a c b d p h v = v
@@ -27,8 +27,5 @@ one-value nan s a b c v w = absurd v
 one-value (inf t) s a b c v w = absurd v
 one-value (fin t m e) s a b c v w = eq-of-mul-eq-mul-right (down e) (down-pos e) a b (sym (v .1) ∙ w .1)
 
-pub powers-join : (a i j : ℕ) → a * 2 ^ i * 2 ^ j ≡ a * 2 ^ (i + j)
-powers-join a i j = mul-assoc a (2 ^ i) (2 ^ j) ∙ ap (λ (z : ℕ). a * z) (sym (pow-add 2 i j))
-
 pub powers-move : (a i j k l : ℕ) → i + j ≡ k + l → a * 2 ^ i * 2 ^ j ≡ a * 2 ^ k * 2 ^ l
-powers-move a i j k l e = powers-join a i j ∙ ap (λ (z : ℕ). a * 2 ^ z) e ∙ sym (powers-join a k l)
+powers-move a i j k l e = gathered a i j ∙ ap (λ (z : ℕ). a * 2 ^ z) e ∙ sym (gathered a k l)

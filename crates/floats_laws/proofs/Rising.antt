@@ -17,14 +17,19 @@ use Rattle.floats_laws.proofs.Rules.{le→key, key→le, le-left, le-ri
 abbrev pub nought : Float
 nought = fin false 0 (pos 0)
 
+-- one of two tests
+pub or-left : (a b : Bool) → T a → T (a || b)
+or-left true b t = tt
+or-left false b t = absurd t
+
+pub or-right : (a b : Bool) → T b → T (a || b)
+or-right true b t = tt
+or-right false b t = t
+
 -- ---- the ends of the order
 pub le-refl : (x : Float) → T (not (isNan x)) → T (le x x)
 unfolding le
-le-refl x u = right (lt x x) (eq x x) (subst T (sym (eq-self x)) u)
-  where
-    right : (a b : Bool) → T b → T (a || b)
-    right true b t = tt
-    right false b t = t
+le-refl x u = or-right (lt x x) (eq x x) (subst T (sym (eq-self x)) u)
 
 pub lowest : (x : Float) → T (not (isNan x)) → T (le (inf true) x)
 unfolding le lt eq isNan

@@ -16,7 +16,8 @@ use Rattle.powers.proofs.PowerLike.{in-unit}
 use Rattle.elementary_laws.proofs.PowerRises.{exp-like}
 use Rattle.elementary_laws.proofs.PowerValues.{power-fits}
 use Rattle.frame.specs.Frame.{activityStep, activityMoved, activityOf, accepted}
-use Rattle.floats_laws.proofs.Proportions.{Proportion, nought-fits, nought-unit, rest-unit, risen-unit, fallen-unit}
+use Rattle.floats_laws.proofs.Proportions.{Proportion, nought-unit, rest-unit, risen-unit, fallen-unit}
+use Rattle.floats_laws.proofs.Units.{zero-fits}
 
 -- TRANSITION_SECONDS
 abbrev transition : Float
@@ -43,8 +44,8 @@ module _ (seconds : Float) (p : T (fits binary32 seconds)) (a : T (accepted seco
   exponent-most =
       let f = and-l (finite seconds) (le nought seconds) a in
       let l = and-r (finite seconds) (le nought seconds) a in
-      let start = neg-falls binary32 nought seconds nought-fits p l in
-      le-trans binary32 exponent (div binary32 minus-nought transition) nought (div-fits binary32 (neg seconds) transition) (div-fits binary32 minus-nought transition) nought-fits
+      let start = neg-falls binary32 nought seconds (zero-fits binary32 false) p l in
+      le-trans binary32 exponent (div binary32 minus-nought transition) nought (div-fits binary32 (neg seconds) transition) (div-fits binary32 minus-nought transition) (zero-fits binary32 false)
       (div-rises binary32 (neg seconds) minus-nought transition tt transition-above start
       (quotient-number binary32 (neg seconds) transition (finite-number binary32 (neg seconds) (neg-finite binary32 seconds f)) tt transition-above) (quotient-number binary32 minus-nought transition tt tt transition-above))
       ending

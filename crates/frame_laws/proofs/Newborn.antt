@@ -27,7 +27,8 @@ use Rattle.floats_laws.proofs.Products.{product-from-zero, mul-rises-right}
 use Rattle.floats_laws.proofs.Rising.{nought, add-rises-right, mul-rises}
 use Rattle.floats_laws.proofs.Rules.{finite-number, add-number, lt→le, le-trans as float-trans}
 use Rattle.floats_laws.proofs.Spans.{lt-le}
-use Rattle.floats_laws.proofs.Proportions.{i, Proportion, i-fits, nought-fits, one-unit, unit-finite, unit-mag, product-unit}
+use Rattle.floats_laws.proofs.Proportions.{Proportion, one-unit, unit-finite, unit-mag, product-unit}
+use Rattle.floats_laws.proofs.Units.{one as i, one-fits, zero-fits}
 use Rattle.draws.specs.Draws.{randomOf}
 use Rattle.draws.proofs.Drawn.{random-in}
 use Rattle.elementary.specs.Log2.{log2Of}
@@ -63,7 +64,7 @@ lawful-rated rate p h =
     let bounds = le lowest rate && le rate (f32 0x48bb8000) in
     record {
       rate-finite = and-l (finite rate) bounds h;
-      rate-above = lt-le binary32 nought lowest rate nought-fits (ofBits-fits binary32 0x45fa0000) p tt (and-l (le lowest rate) (le rate (f32 0x48bb8000)) (and-r (finite rate) bounds h));
+      rate-above = lt-le nought lowest rate tt (and-l (le lowest rate) (le rate (f32 0x48bb8000)) (and-r (finite rate) bounds h));
     }
 
 pub top-of : (rate : Float) → T (lawfulRate (rate32 rate)) → Top (maxHzOf rate)
@@ -79,7 +80,7 @@ unfolding ofInt lt
 harmonic-log n h =
     let x = round binary32 false (n + 1) 1 in
     log-mag x (round-fits binary32 false (n + 1) 1)
-    (lt-le binary32 nought (round binary32 false 1 1) x nought-fits (round-fits binary32 false 1 1) (round-fits binary32 false (n + 1) 1) one-above (round-mono binary32 1 1 (n + 1) 1 (zero-lt-suc 0) (zero-lt-suc 0) (omega arith)))
+    (lt-le nought (round binary32 false 1 1) x one-above (round-mono binary32 1 1 (n + 1) 1 (zero-lt-suc 0) (zero-lt-suc 0) (omega arith)))
     (mag-finite x 24 (within binary32 false (n + 1) 1 24 (zero-lt-suc 0) (lit≤ tt) (omega arith)))
 
 pub engine-logs : Logs partialLogs
@@ -136,15 +137,15 @@ opening-unit Sprinkle index =
     let d = draw-unit index 10 in
     record {
       held = add-fits binary32 low (mul binary32 rest r);
-      least = float-trans binary32 nought (add binary32 low nought) (add binary32 low (mul binary32 rest r)) nought-fits (add-fits binary32 low nought) (add-fits binary32 low (mul binary32 rest r)) tt (drawn-least low rest r (lit≤ tt) (lit≤ tt) tt d);
-      most = float-trans binary32 (add binary32 low (mul binary32 rest r)) (add binary32 low (mul binary32 rest i)) i (add-fits binary32 low (mul binary32 rest r)) (add-fits binary32 low (mul binary32 rest i)) i-fits (drawn-most low rest r (lit≤ tt) (lit≤ tt) tt d) tt;
+      least = float-trans binary32 nought (add binary32 low nought) (add binary32 low (mul binary32 rest r)) (zero-fits binary32 false) (add-fits binary32 low nought) (add-fits binary32 low (mul binary32 rest r)) tt (drawn-least low rest r (lit≤ tt) (lit≤ tt) tt d);
+      most = float-trans binary32 (add binary32 low (mul binary32 rest r)) (add binary32 low (mul binary32 rest i)) i (add-fits binary32 low (mul binary32 rest r)) (add-fits binary32 low (mul binary32 rest i)) (one-fits binary32) (drawn-most low rest r (lit≤ tt) (lit≤ tt) tt d) tt;
     }
 
 strength-unit : (l : Float) → T (not (isNan l)) → Proportion (register.registerStrength l)
 unfolding register.registerStrength ofBits le lt eq
 strength-unit l u =
     let b = strength-in l u in
-    record { held = add-fits binary32 _ _; least = float-trans binary32 nought register.lowOpening (register.registerStrength l) nought-fits (ofBits-fits binary32 0x3dcccccd) (add-fits binary32 _ _) tt (b .0); most = b .1 }
+    record { held = add-fits binary32 _ _; least = float-trans binary32 nought register.lowOpening (register.registerStrength l) (zero-fits binary32 false) (ofBits-fits binary32 0x3dcccccd) (add-fits binary32 _ _) tt (b .0); most = b .1 }
 
 whole-mag : (x : Float) → WholeUpto 256 x → Mag x 256
 whole-mag nan w = w .is
@@ -190,10 +191,10 @@ module _ (size factor : Float) (sf : T (fits binary32 size)) (s : Mag size 8) (s
       let fh = mag-finite halved 8 h in
       let ff = mag-finite factor 2 m in
       let least : T (le sixteenth halved) = mul-rises binary32 eighth size half tt tt sl (mul-number binary32 eighth half tt tt) (mul-number binary32 size half fs tt) in (
-        lt-le binary32 nought (mul binary32 sixteenth low) (mul binary32 halved factor) nought-fits (mul-fits binary32 sixteenth low) (mul-fits binary32 halved factor) tt
+        lt-le nought (mul binary32 sixteenth low) (mul binary32 halved factor) tt
             (float-trans binary32 (mul binary32 sixteenth low) (mul binary32 sixteenth factor) (mul binary32 halved factor) (mul-fits binary32 sixteenth low) (mul-fits binary32 sixteenth factor) (mul-fits binary32 halved factor)
             (mul-rises-right binary32 low factor tt ff sixteenth tt tt fl)
-            (mul-rises binary32 sixteenth halved factor ff (float-trans binary32 nought low factor nought-fits (ofBits-fits binary32 0x3f266666) fits-factor tt fl) least (mul-number binary32 sixteenth factor tt ff) (mul-number binary32 halved factor fh ff))),
+            (mul-rises binary32 sixteenth halved factor ff (float-trans binary32 nought low factor (zero-fits binary32 false) (ofBits-fits binary32 0x3f266666) fits-factor tt fl) least (mul-number binary32 sixteenth factor tt ff) (mul-number binary32 halved factor fh ff))),
         mag-finite (mul binary32 halved factor) 16 p,
       )
 
@@ -211,7 +212,7 @@ spread = sub binary32 (f32 0x3fa00000) low
 
 wide-of : (shape : Shape) (index : ℕ) (size : Float) → T (fits binary32 size) → Mag size 8 → T (le eighth size) → T (lt nought (widthOf shape size index)) × T (finite (widthOf shape size index))
 unfolding widthOf ofBits sub add neg Ieee.sum Ieee.round Ieee.units Ieee.odd Ieee.size Ieee.span Ieee.climb le lt eq
-wide-of Cloud index size p m h = wide size i p m h i-fits (lit≤ tt) tt
+wide-of Cloud index size p m h = wide size i p m h (one-fits binary32) (lit≤ tt) tt
 wide-of Sprinkle index size p m h =
     let r = randomOf index 7 in
     let d = draw-unit index 7 in

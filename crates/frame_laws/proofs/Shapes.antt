@@ -35,7 +35,8 @@ use Rattle.floats.specs.Names.{zero32, one}
 use Rattle.frame.specs.declared.places.Shown.{Shown}
 use Rattle.frame.specs.Shown.{rootLogOf}
 use Rattle.frame.specs.Windows.{centerOf, radiusOf}
-use Rattle.floats_laws.proofs.Proportions.{i, i-fits, nought-fits, one-and-nothing, to-nought, from-round}
+use Rattle.floats_laws.proofs.Proportions.{one-and-nothing, to-nought, from-round}
+use Rattle.floats_laws.proofs.Units.{one as i, one-fits, zero-fits}
 
 -- ---- the centre
 pub log-mag : (x : Float) → T (fits binary32 x) → T (lt nought x) → T (finite x) → Mag (log2Of x) 149
@@ -69,7 +70,7 @@ pub radius-above : (width binHz hz : Float) → T (fits binary32 width) → T (l
 unfolding radiusOf max fits
 radius-above width binHz hz p h u =
     let l = log2Of (add binary32 one (div binary32 (max binHz zero32) (max hz one))) in
-    rw (is-false (isNan width) u) (by-case (lt width l) (λ e. rw e (lt-le binary32 nought width l tt p (log2-fits _) h (lt→le width l e))) (λ e. rw e h))
+    rw (is-false (isNan width) u) (by-case (lt width l) (λ e. rw e (lt-le nought width l h (lt→le width l e))) (λ e. rw e h))
 
 -- ---- no finite number is above the largest one, and 1 more than that is rounded back to it
 abbrev largest : Float
@@ -91,7 +92,7 @@ at-most-largest : (x : Float) → T (fits binary32 x) → T (finite x) → T (le
 unfolding le lt eq
 at-most-largest nan p h = absurd h
 at-most-largest (inf s) p h = absurd h
-at-most-largest (fin true m e) p h = float-trans binary32 (fin true m e) nought largest p nought-fits largest-fits (to-nought binary32 m e p) tt
+at-most-largest (fin true m e) p h = float-trans binary32 (fin true m e) nought largest p (zero-fits binary32 false) largest-fits (to-nought binary32 m e p) tt
 at-most-largest (fin false zero e) p h = mag-le (fin false zero e) 16777215 (pos 104) 1 (zero-lt-suc 0) (lit≤ tt) (omega (arith, zero-mul (up e)))
 at-most-largest (fin false (suc m) e) p h =
     let x = fin false (suc m) e in
@@ -122,13 +123,13 @@ quotient-in nan (inf false) p u h q g = absurd u
 quotient-in (inf s) (inf false) p u h q g = absurd u
 quotient-in (fin true m e) (inf false) p u h q g = (tt, tt)
 quotient-in (fin false m e) (inf false) p u h q g = (tt, tt)
-quotient-in b (fin true n d) p u h q g = absurd (not-above n d (lt-le binary32 nought i (fin true n d) nought-fits i-fits q tt g))
-quotient-in b (fin false zero d) p u h q g = absurd (not-itself d (lt-le binary32 nought i (fin false zero d) nought-fits i-fits q tt g))
+quotient-in b (fin true n d) p u h q g = absurd (not-above n d (lt-le nought i (fin true n d) tt g))
+quotient-in b (fin false zero d) p u h q g = absurd (not-itself d (lt-le nought i (fin false zero d) tt g))
 quotient-in b (fin false (suc n) d) p u h q g =
     let z = fin false (suc n) d in
-    let a = lt-le binary32 nought i z nought-fits i-fits q tt g in
+    let a = lt-le nought i z tt g in
     let m = quotient-number binary32 b z (finite-number binary32 b u) tt a in (
-      float-trans binary32 nought (div binary32 nought z) (div binary32 b z) nought-fits (div-fits binary32 nought z) (div-fits binary32 b z) (nothing-by n d)
+      float-trans binary32 nought (div binary32 nought z) (div binary32 b z) (zero-fits binary32 false) (div-fits binary32 nought z) (div-fits binary32 b z) (nothing-by n d)
           (div-rises binary32 nought b z tt a h (quotient-number binary32 nought z tt tt a) m),
       float-trans binary32 (div binary32 b z) (div binary32 largest z) largest (div-fits binary32 b z) (div-fits binary32 largest z) largest-fits
           (div-rises binary32 b largest z tt a (at-most-largest b p u) m (quotient-number binary32 largest z tt tt a)) (largest-by n d (omega (arith, le-of (1 * 1 * down d) (suc n * up d * 1) g))),
@@ -146,8 +147,8 @@ max-finite x y p q = chosen (isNan x) y (cond (lt x y) y x) q (chosen (lt x y) y
 one-or-more : (hz : Float) → T (fits binary32 hz) → T (le i (max hz i))
 unfolding max isNan
 one-or-more nan p = float-refl i tt
-one-or-more (inf s) p = max-right binary32 (inf s) i p i-fits tt tt
-one-or-more (fin s m e) p = max-right binary32 (fin s m e) i p i-fits tt tt
+one-or-more (inf s) p = max-right binary32 (inf s) i p (one-fits binary32) tt tt
+one-or-more (fin s m e) p = max-right binary32 (fin s m e) i p (one-fits binary32) tt tt
 
 pub radius-finite : (width binHz hz : Float) → T (finite width) → T (fits binary32 binHz) → T (finite binHz) → T (fits binary32 hz) → T (finite (radiusOf width binHz hz))
 unfolding radiusOf ofBits isNan lt
@@ -155,9 +156,9 @@ radius-finite width binHz hz w p u q =
     let b = max binHz nought in
     let z = max hz i in
     let bin = div binary32 b z in
-    let c = quotient-in b z (max-fits binary32 binHz nought p nought-fits) (max-finite binHz nought u tt) (max-right binary32 binHz nought p nought-fits (finite-number binary32 binHz u) tt) (max-fits binary32 hz i q i-fits) (one-or-more hz q) in
+    let c = quotient-in b z (max-fits binary32 binHz nought p (zero-fits binary32 false)) (max-finite binHz nought u tt) (max-right binary32 binHz nought p (zero-fits binary32 false) (finite-number binary32 binHz u) tt) (max-fits binary32 hz i q (one-fits binary32)) (one-or-more hz q) in
     let n = add-number binary32 i bin tt (between-finite binary32 nought bin largest tt tt (c .0) (c .1)) in
     let low : T (le i (add binary32 i bin)) = subst (λ (x : Float). T (le x (add binary32 i bin))) one-and-nothing (add-rises-right binary32 i nought bin (c .0) (add-number binary32 i nought tt tt) n) in
     let high : T (le (add binary32 i bin) largest) = subst (λ (x : Float). T (le (add binary32 i bin) x)) one-more (add-rises-right binary32 i bin largest (c .1) n (add-number binary32 i largest tt tt)) in
     max-finite width (log2Of (add binary32 i bin)) w
-    (log2-within (add binary32 i bin) (add-fits binary32 i bin) (lt-le binary32 nought i (add binary32 i bin) nought-fits i-fits (add-fits binary32 i bin) tt low) (between-finite binary32 i (add binary32 i bin) largest tt tt low high) .finite)
+    (log2-within (add binary32 i bin) (add-fits binary32 i bin) (lt-le nought i (add binary32 i bin) tt low) (between-finite binary32 i (add binary32 i bin) largest tt tt low high) .finite)

@@ -8,7 +8,7 @@ use lib.Dec.{T, eqb, ltb→lt}
 use lib.Pow.{pow-pos}
 use lib.Ieee.{Float, nan, inf, fin, binary32, binary64, ofBits, ofInt, up, down, round, add, sub, mul, div, neg, lt, fits, isNan}
 use lib.Ieee as Ieee
-use lib.Ieee.Fits.{down-pos, mul-fits, sub-fits, div-fits, round-fits}
+use lib.Ieee.Fits.{down-pos, mul-fits, sub-fits, div-fits}
 use lib.Ieee.Order.{round-mono}
 use lib.Ieee.Scale.{finite}
 use borrow.Author.Tests.{le-ltb}
@@ -29,7 +29,8 @@ use Rattle.windows.specs.Opening.{taperOf, cubic}
 use Rattle.windows_laws.proofs.Tapered.{taper-finite, taper-most}
 use Rattle.frame.specs.Freed.{elapsedOf, secondsOf, retirementOf}
 use Rattle.frame.specs.Shown.{powerOf, envelopeOf, passedOf, fadeOf, amplitudeOf}
-use Rattle.floats_laws.proofs.Proportions.{i, nought-fits, Proportion, product-unit}
+use Rattle.floats_laws.proofs.Proportions.{Proportion, product-unit}
+use Rattle.floats_laws.proofs.Units.{one as i}
 
 -- what the amplitude needs of a particle; a birth gives it
 pub record Timed (p : Particle) : Type 0 where
@@ -72,7 +73,7 @@ left-above (fin false m e) p g h =
     let n = 1 * 1 * down e - m * up e * 1 in
     let D : 0 < 1 * down e = mul-pos (zero-lt-suc 0) (down-pos e) in
     rw (le-ltb (1 * 1 * down e) (m * up e * 1) (omega arith)) (
-      lt-le binary32 nought smallest (round binary32 false n (1 * down e)) nought-fits (round-fits binary32 false 1 (2 ^ 149)) (round-fits binary32 false n (1 * down e)) smallest-above
+      lt-le nought smallest (round binary32 false n (1 * down e)) smallest-above
           (round-mono binary32 1 (2 ^ 149) n (1 * down e) (pow-pos 149) D (mul-le-mul (omega arith) (le-trans (le-of-eq (one-mul (down e))) (fine binary32 false m e p .deep)))),
       mag-finite (round binary32 false n (1 * down e)) 1 (within binary32 false n (1 * down e) 1 D (omega arith) (omega arith)),
     )

@@ -3,7 +3,7 @@ use Prim.Native.Nat.{ℕ, zero, suc, _+_, _-_, _*_, _^_, _≤_, _<_}
 use native.Mathlib.Nat.{mul-assoc, mul-right-comm, mul-one, one-mul, zero-mul, mul-pos, mul-le-mul-right, zero-lt-suc}
 use native.Mathlib.Omega.{arith}
 use mathlib.Core.Path.{_≡_, refl, sym, ap, _∙_, subst}
-use mathlib.Core.Bool.{Bool, true, false, not, cond, _&&_}
+use mathlib.Core.Bool.{Bool, true, false, not, cond, _&&_, true≢false}
 use borrow.Author.Tests.{lt-ltb, ltb-true, ltb-false, ne-eqb}
 use denote.Floats.{passes}
 use lib.IntN.{pos, negsuc}
@@ -54,13 +54,10 @@ one-fourth : round binary32 false 1 4 ≡ quarter
 unfolding round Ieee.units Ieee.odd Ieee.size Ieee.span Ieee.climb
 one-fourth = refl
 
-no-minus : true ≡ false → ⊥
-no-minus e = subst T e tt
-
 whole-least : (x : Float) (n : ℕ) → 1 ≤ n → HasValue x false n 1 → Least x 1
 whole-least nan n h v = absurd v
 whole-least (inf s) n h v = absurd v
-whole-least (fin true m e) n h v = absurd (no-minus (v .0))
+whole-least (fin true m e) n h v = absurd (true≢false (v .0))
 whole-least (fin false m e) n h v = omega (arith, mul-le-mul-right (down e) h, v .1, mul-one (m * up e), one-mul (m * up e), one-mul (down e))
 
 -- 8,000 / 16,384 is more than a quarter

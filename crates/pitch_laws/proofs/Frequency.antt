@@ -49,7 +49,7 @@ module _ (maxHz : Float) (f : T (fits binary32 maxHz)) (a : T (le leastHz maxHz)
 
   hz-above : T (lt nought maxHz)
   unfolding fits
-  hz-above = lt-le binary32 nought leastHz maxHz tt (ofBits-fits binary32 0x457a0000) f (looked .least-above) a
+  hz-above = lt-le nought leastHz maxHz (looked .least-above) a
 
   abbrev rest : Float
   rest = sub32 octaves ramp
@@ -215,7 +215,7 @@ unfolding fits lt
 power-sounds x f h =
     let a = subst (λ (z : Float). T (le z (exp2 x))) lowest-power (exp2-like .never-falls (fin true 35 (pos 0)) x (from-minus x f h)) in
     let b = subst (λ (z : Float). T (le (exp2 x) z)) highest-power (exp2-like .never-falls x (fin false 35 (pos 0)) (mag-le x 35 (pos 0) 35 (lit< tt) (lit≤ tt) h)) in
-    (lt-le binary32 nought (fin false 1 (negsuc 34)) (exp2 x) tt tt (exp2-fits x) tt a, between-finite binary32 (fin false 1 (negsuc 34)) (exp2 x) (fin false 1 (pos 35)) tt tt a b)
+    (lt-le nought (fin false 1 (negsuc 34)) (exp2 x) tt a, between-finite binary32 (fin false 1 (negsuc 34)) (exp2 x) (fin false 1 (pos 35)) tt tt a b)
 
 -- ---- THE CLAIM
 pub frequency-sounds : (index : ℕ) (maxHz : Float) → T (fits binary32 maxHz) → T (le leastHz maxHz) → T (le maxHz mostHz) → Sounds (frequencyOf index maxHz)

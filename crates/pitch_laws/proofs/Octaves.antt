@@ -54,7 +54,7 @@ least-above = tt
 
 above-zero : (x y : Float) → T (fits binary32 x) → T (fits binary32 y) → T (lt nought x) → T (le x y) → T (lt nought y)
 unfolding fits
-above-zero x y f g h l = lt-le binary32 nought x y tt f g h l
+above-zero x y f g h l = lt-le nought x y h l
 
 root-log : (x : Float) → T (fits binary32 x) → T (lt nought x) → T (finite x) → Mag (log2Of x) 149
 unfolding neg fits

@@ -74,7 +74,7 @@ module _ (maxHz : Float) (f : T (fits binary32 maxHz)) (a : T (le leastHz maxHz)
 
   ramp-short : T (lt ramp range)
   unfolding ramp
-  ramp-short = lt-le binary32 ramp (f32 0x40f49a78) range (ofBits-fits binary32 0x408eb3aa) (ofBits-fits binary32 0x40f49a78) (sub-fits binary32 (log2Of maxHz) low) (looked .ramp-below) (octaves-from maxHz f a)
+  ramp-short = lt-le ramp (f32 0x40f49a78) range (looked .ramp-below) (octaves-from maxHz f a)
 
   pub span-past-ramp : T (lt (rampOf (log2Of minHz)) (sub32 (log2Of maxHz) (log2Of minHz)))
   span-past-ramp = rw (low-is, ramp-is) ramp-short

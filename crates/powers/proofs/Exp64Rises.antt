@@ -16,6 +16,7 @@ use Rattle.floats_laws.proofs.Mono.{le→signed}
 use Rattle.floats_laws.proofs.Naturals.{sum-rises, div-rises, shifted-less}
 use Rattle.floats_laws.proofs.PatternOrder.{patterns-rise, bits-under, sizes-rise}
 use Rattle.floats.proofs.Sign.{negative-is}
+use Rattle.floats.proofs.Division.{zero-pattern}
 use Rattle.powers.specs.Placed.{edged, placed, placed64}
 use Rattle.powers.specs.Exp64.{scaled, sided, high, expMantissa, expBits, exp64}
 use Rattle.powers.proofs.Edges.{Inside, edged-rises}
@@ -203,10 +204,6 @@ within-rises x y i j h =
     let v = sided (toBits binary64 x) in
     let w = sided (toBits binary64 y) in
     patterns-rise binary64 (expBits v) (expBits w) (expBits-rises v w (sided-rises x y i j h)) (expBits-under w)
-
-zero-pattern : ofBits binary64 0 ≡ nought
-unfolding ofBits ofFields odd
-zero-pattern = refl
 
 within-positive : (x : Float) → Inside x → T (le nought (within x))
 within-positive x i =

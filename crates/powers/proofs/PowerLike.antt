@@ -6,9 +6,7 @@ use lib.Dec.{T}
 use lib.Ieee.{Float, nan, inf, fin, le, isNan}
 use Rattle.floats_laws.proofs.Rules.{le-left}
 use Rattle.floats_laws.proofs.Rising.{lowest, nought}
-
-abbrev pub one : Float
-one = fin false 1 (pos 0)
+use Rattle.floats_laws.proofs.Units.{one}
 
 pub record PowerLike (p : Float → Float) : Type 0 where
   pub at-nan : p nan ≡ nan

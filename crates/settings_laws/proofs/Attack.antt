@@ -1,16 +1,16 @@
 -- A stage x of at most 5 and one r of at least 1 / 512, as f32s: their sum is at most 10, and x is a part of it that stays clear of 0 and of 1.
 -- The sum is at least k / 1024, where k is the next but one whole number above 1024 x: that is a float, so rounding does not pass it.
 use Prim.Native.Nat.{ℕ, _+_, _*_, _/_, _%_, _^_, _≤_, _<_}
-use native.Mathlib.Nat.{le-trans, le-of-eq, lt-of-lt-of-le, lt-of-le-of-lt, mul-comm, mul-assoc, mul-right-comm, mul-pos, zero-mul, add-mul, mul-le-mul-right, mul-le-mul, le-of-mul-le-mul-right, mul-lt-mul-of-pos-right, mul-mul-mul-comm, div-add-mod', mod-lt}
+use native.Mathlib.Nat.{le-trans, le-of-eq, lt-of-le-of-lt, mul-comm, mul-assoc, mul-right-comm, mul-pos, zero-mul, add-mul, mul-le-mul-right, mul-le-mul, le-of-mul-le-mul-right, mul-mul-mul-comm, div-add-mod', mod-lt}
 use native.Mathlib.Omega.{arith}
-use mathlib.Core.Path.{_≡_, sym, ap, _∙_}
+use mathlib.Core.Path.{_≡_, sym, ap, _∙_, refl}
 use mathlib.Core.Bool.{true, false, true≢false}
 use lib.IntN.{ℤ}
 use lib.Dec.{T, eqb, eqb→eq, lit≤, lit<}
-use lib.Pow.{pow-pos, pow-add, pow-mono}
+use lib.Pow.{pow-pos}
 use lib.Ieee.{Float, nan, inf, fin, binary32, up, down, ofBits, round, add, sum, div, lt, le, eq, fits}
-use lib.Ieee.Fits.{down-pos, round-fits}
-use lib.Ieee.Exact.{HasValue, round-exact}
+use lib.Ieee.Fits.{down-pos}
+use lib.Ieee.Exact.{HasValue}
 use lib.Ieee.Order.{round-mono}
 use denote.Floats.{passes}
 use Rattle.sequences.specs.Pick.{by-case}
@@ -19,15 +19,9 @@ use Rattle.floats_laws.proofs.Mag.{Upto, Least, le-of}
 use Rattle.floats_laws.proofs.Rising.{nought}
 use Rattle.floats_laws.proofs.Bounds.{add-upto}
 use Rattle.floats_laws.proofs.Spans.{le-lt, lt-le}
+use Rattle.floats_laws.proofs.Fractions.{held}
 
 -- ---- numbers on the grid of 1 / 1024
-gridded : (k : ℕ) → k < 2 ^ 24 → HasValue (round binary32 false k 1024) false k 1024
-gridded k h =
-    round-exact binary32 false k 1024 k 139 (pow-pos 10) h (lt-of-lt-of-le (mul-lt-mul-of-pos-right h (pow-pos 139)) (pow-mono {i = 163} {j = 277} (lit≤ tt))) (split k)
-  where
-    split : (n : ℕ) → n * 2 ^ 149 ≡ n * 2 ^ 139 * 2 ^ 10
-    split n = ap (λ (z : ℕ). n * z) (pow-add 2 139 10) ∙ sym (mul-assoc n (2 ^ 139) (2 ^ 10))
-
 -- at least k / 1024, as a fraction
 abbrev Above : Float → ℕ → Type 0
 Above nan k = ⊥
@@ -100,8 +94,8 @@ highest = round binary32 false 8191 8192
 between : (a b : ℕ) → 0 < b → 1 * b ≤ a * 8192 → a * 8192 ≤ 8191 * b → Part (round binary32 false a b)
 unfolding lowest highest round lt ofBits fits
 between a b B h g = (
-  lt-le binary32 nought lowest (round binary32 false a b) tt (round-fits binary32 false 1 8192) (round-fits binary32 false a b) tt (round-mono binary32 1 8192 a b (pow-pos 13) B h),
-  le-lt binary32 (round binary32 false a b) highest one (round-fits binary32 false a b) (round-fits binary32 false 8191 8192) tt (round-mono binary32 a b 8191 8192 B (pow-pos 13) g) tt,
+  lt-le nought lowest (round binary32 false a b) tt (round-mono binary32 1 8192 a b (pow-pos 13) B h),
+  le-lt (round binary32 false a b) highest one (round-mono binary32 a b 8191 8192 B (pow-pos 13) g) tt,
 )
 
 -- of a sum l that is at least k / 1024
@@ -165,4 +159,4 @@ stage-part (fin false m e) (fin false n g) a b c d = (far l j high, part-of m e 
     small = lt-of-le-of-lt (omega (arith, few (m * up e) (down e) (n * up g) (down g) (down-pos e) a b d)) room
 
     high : Above l (j + 2)
-    high = above (round binary32 false (j + 2) 1024) l (j + 2) 10 (sum-above m e n g (j + 2) (sum-least (m * up e) (down e) (n * up g) (down g) (down-pos e) a b d)) (gridded (j + 2) small) top
+    high = above (round binary32 false (j + 2) 1024) l (j + 2) 10 (sum-above m e n g (j + 2) (sum-least (m * up e) (down e) (n * up g) (down g) (down-pos e) a b d)) (held binary32 false 139 10 (j + 2) refl small) top

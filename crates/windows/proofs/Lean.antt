@@ -11,11 +11,11 @@ use lib.Ieee as Ieee
 use lib.Ieee.Fits.{sub-fits, div-fits, and-i, eq→eqb, up-pos, round-is}
 use lib.Ieee.Order.{kept, drop}
 use Rattle.floats.specs.Choose.{abs, clamp}
-use Rattle.floats_laws.proofs.Between.{or-left, or-right}
 use Rattle.floats_laws.proofs.Ends.{not-above, from-zero}
 use Rattle.floats_laws.proofs.Gap.{one-number}
-use Rattle.floats_laws.proofs.Rising.{nought, sub-falls}
+use Rattle.floats_laws.proofs.Rising.{nought, sub-falls, or-left, or-right}
 use Rattle.floats_laws.proofs.Units.{one as i, one-fits, zero-fits}
+use Rattle.floats_laws.proofs.Proportions.{one-less-nothing}
 use Rattle.windows.specs.declared.Window.{Window}
 use Rattle.floats.specs.Names.{zero32, one}
 use Rattle.windows.specs.Opening.{cubic, taperOf, insideOf}
@@ -26,10 +26,6 @@ unsigned nan = true
 unsigned (inf s) = not s
 unsigned (fin s m e) = not s
 
-one-zero : sub binary32 i nought ≡ i
-unfolding sub add neg Ieee.sum round Ieee.units Ieee.odd Ieee.size Ieee.span Ieee.climb
-one-zero = refl
-
 at-most-one : (q : Float) → T (fits binary32 q) → T (unsigned q) → lt i (sub binary32 i q) ≡ false
 unfolding sub add neg lt Ieee.isNan
 at-most-one nan p h = refl
@@ -38,7 +34,7 @@ at-most-one (inf false) p h = refl
 at-most-one (fin true m e) p h = absurd h
 at-most-one (fin false m e) p h =
     not-above binary32 (sub binary32 i (fin false m e)) i (sub-fits binary32 i (fin false m e)) (one-fits binary32)
-    (subst (λ (x : Float). T (le (sub binary32 i (fin false m e)) x)) one-zero (sub-falls binary32 i nought (fin false m e) (zero-fits binary32 false) p (from-zero binary32 m e p) (one-number binary32 nought tt) (one-number binary32 (fin false m e) tt)))
+    (subst (λ (x : Float). T (le (sub binary32 i (fin false m e)) x)) one-less-nothing (sub-falls binary32 i nought (fin false m e) (zero-fits binary32 false) p (from-zero binary32 m e p) (one-number binary32 nought tt) (one-number binary32 (fin false m e) tt)))
 
 -- ---- a quotient of what has no minus by what is not at or below 0
 cond-unsigned : (b : Bool) (x y : Float) → T (unsigned x) → T (unsigned y) → T (unsigned (cond b x y))

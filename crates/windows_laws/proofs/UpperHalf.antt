@@ -4,14 +4,14 @@ use Prim.Native.Nat.{ℕ, suc, _+_, _-_, _*_, _^_, _≤_, _<_}
 use native.Mathlib.Nat.{le-trans, le-of-eq, le-of-lt, lt-of-le-of-lt, lt-of-lt-of-le, mul-assoc, mul-comm, mul-left-comm, mul-right-comm, add-mul, mul-one, one-mul, mul-pos, mul-le-mul, mul-le-mul-left, mul-le-mul-right, mul-lt-mul-of-pos-right, le-of-mul-le-mul-right, eq-of-mul-eq-mul-right, zero-lt-suc, pow-suc}
 use native.Mathlib.Omega.{arith}
 use mathlib.Core.Path.{_≡_, sym, ap, _∙_, subst}
-use mathlib.Core.Bool.{Bool, true, false, cond, _&&_}
+use mathlib.Core.Bool.{Bool, true, false, cond, _&&_, true≢false}
 use borrow.Author.Tests.{le-ltb}
-use lib.Pow.{pow-add, pow-pos, pow-mono, shl-lt}
+use lib.Pow.{pow-pos, pow-mono}
 use lib.IntN.{pos, negsuc}
 use lib.Dec.{T, ltb, leb→le, ltb→lt}
 use lib.Ieee.{Float, nan, inf, fin, Format, binary32, binary64, prec, emax, low, up, down, round, add, sub, mul, neg, le, fits}
 use lib.Ieee as Ieee
-use lib.Ieee.Exact.{HasValue, round-exact}
+use lib.Ieee.Exact.{HasValue}
 use lib.Ieee.Fits.{down-pos, round-fits}
 use lib.Ieee.Scale.{finite, round-same}
 use Rattle.floats.specs.Convert.{apart, unitsIn, Nearest}
@@ -20,6 +20,7 @@ use Rattle.floats_laws.proofs.Mag.{Upto, upto-mag, within-upto, mag-le}
 use Rattle.floats_laws.proofs.Nearest.{round-nearest}
 use Rattle.floats.proofs.Pack.{pow-lt-back}
 use Rattle.floats_laws.proofs.Units.{one as i}
+use Rattle.floats_laws.proofs.Fractions.{held}
 
 -- ---- numbers
 -- c and g are what y lies above a half and below 1; H is the half, in their units
@@ -82,13 +83,6 @@ two = fin false 1 (pos 1)
 abbrev pub three : Float
 three = fin false 3 (pos 0)
 
-true-is-not : true ≡ false → ⊥
-true-is-not e = subst T e tt
-
-few-digits : (f : Format) → prec f ≤ suc (emax f)
-few-digits binary32 = leb→le _ _ tt
-few-digits binary64 = leb→le _ _ tt
-
 deep : (f : Format) → prec f ≤ low f
 deep binary32 = leb→le _ _ tt
 deep binary64 = leb→le _ _ tt
@@ -100,12 +94,7 @@ far-from-infinity binary64 = ltb→lt _ _ tt
 module _ (f : Format) where
   -- a fraction of few digits is exact
   exact : (n k : ℕ) → n < 2 ^ prec f → k ≤ low f → HasValue (round f false n (2 ^ k)) false n (2 ^ k)
-  exact n k s h =
-      let j = low f - k in
-      let e : j + k ≡ low f = omega arith in
-      round-exact f false n (2 ^ k) n j (pow-pos k) s
-      (lt-of-lt-of-le (shl-lt (prec f) j s) (pow-mono (omega (arith, few-digits f))))
-      (ap (λ (x : ℕ). n * 2 ^ x) (sym e) ∙ ap (λ (x : ℕ). n * x) (pow-add 2 j k) ∙ sym (mul-assoc n (2 ^ j) (2 ^ k)))
+  exact n k s h = held f false (low f - k) k n (omega arith) s
 
   -- a value, counted in the format's smallest
   counted : (x : Float) (a c : ℕ) → T (fits f x) → HasValue x false a c → unitsIn f x * c ≡ a * 2 ^ low f
@@ -136,7 +125,7 @@ module _ (f : Format) where
   unfolding sub add neg Ieee.sum
   rest-is nan m K r P v h = absurd v
   rest-is (inf s) m K r P v h = absurd v
-  rest-is (fin true n d) m K r P v h = absurd (true-is-not (v .0))
+  rest-is (fin true n d) m K r P v h = absurd (true≢false (v .0))
   rest-is (fin false n d) m K r P v h =
       ap (λ (b : Bool). cond b (round f true (n * up d * 1 - 3 * 1 * down d) (1 * down d)) (round f (false && ltb (n * up d * 1) (3 * 1 * down d)) (3 * 1 * down d - n * up d * 1) (1 * down d))) (le-ltb (3 * 1 * down d) (n * up d * 1) small)
       ∙ round-same f false (3 * 1 * down d - n * up d * 1) (1 * down d) r K (mul-pos (zero-lt-suc 0) (down-pos d)) P same
@@ -165,8 +154,8 @@ module _ (f : Format) where
   under-one (inf s) r U L R K P Q v w h = absurd v
   under-one (fin s a d) nan U L R K P Q v w h = absurd w
   under-one (fin s a d) (inf t) U L R K P Q v w h = absurd w
-  under-one (fin true a d) (fin t b e) U L R K P Q v w h = absurd (true-is-not (v .0))
-  under-one (fin false a d) (fin true b e) U L R K P Q v w h = absurd (true-is-not (w .0))
+  under-one (fin true a d) (fin t b e) U L R K P Q v w h = absurd (true≢false (v .0))
+  under-one (fin false a d) (fin true b e) U L R K P Q v w h = absurd (true≢false (w .0))
   under-one (fin false a d) (fin false b e) U L R K P Q v w h =
       within-upto f (a * up d * (b * up e)) (down d * down e) 1 (mul-pos (down-pos d) (down-pos e)) (pow-pos (prec f))
       (le-trans (fractions (a * up d) (down d) (b * up e) (down e) U L R K P Q (v .1) (w .1) h) (le-of-eq (sym (one-mul (down d * down e)))))
