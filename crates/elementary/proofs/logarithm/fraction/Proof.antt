@@ -1,3 +1,4 @@
+-- `fraction` meets its contract: the cell's numbers, put together; by the table's rule each product and sum fits.
 use mathlib.Core.Path.{_≡_}
 use Prim.Native.Nat.{ℕ, _+_, _-_, _*_, _/_, _%_, _≤_, _<_}
 use native.Mathlib.Nat.{le-trans}

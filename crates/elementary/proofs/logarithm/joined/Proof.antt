@@ -1,3 +1,4 @@
+-- `joined` meets its contract: the callee's answer, which is below 2^24, so that an f32 holds it.
 use Prim.Native.Nat.{ℕ, _<_}
 use native.Mathlib.Nat.{le-of-lt}
 use lib.Dec.{T, le→leb}

@@ -1,3 +1,4 @@
+-- `log2` meets its contract: the rung and the digits of a normal number above zero are its fields; the rest is `rare`'s.
 use mathlib.Core.Path.{_≡_, sym, _∙_, subst}
 use Prim.Native.Nat.{ℕ, _+_, _-_, _/_, _%_, _≤_, _<_}
 use native.Mathlib.Omega.{arith}

@@ -1,3 +1,4 @@
+-- `rare` meets its contract: one test after the other, then the logarithm of the pattern, `Tested.log-is`.
 use mathlib.Core.Path.{sym, _∙_}
 use native.Mathlib.Omega.{arith}
 use lib.Dec.{T}

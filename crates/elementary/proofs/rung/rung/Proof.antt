@@ -1,3 +1,4 @@
+-- `rung` meets its contract: `Rungs.rung-normal` or `Rungs.rung-low`.
 use mathlib.Core.Path.{sym}
 use native.Mathlib.Omega.{arith}
 use Rattle.elementary.proofs.Rungs.{low-facts, rung-normal, rung-low}

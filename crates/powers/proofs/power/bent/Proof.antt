@@ -1,3 +1,4 @@
+-- `bent` meets its contract: the product fits a word, and what is below 2^26, over 2^26, makes it no larger.
 use mathlib.Core.Path.{refl}
 use native.Mathlib.Nat.{mul-le-mul-right, le-of-lt, mul-comm, div-le-of-le-mul}
 use native.Mathlib.Omega.{arith}

@@ -1,3 +1,4 @@
+-- `db_to_gain` meets its contract: it is its callee's.
 use borrow.Author.Needs.{needs}
 use Rattle.powers.specs.Power.{dbToGain}
 use Rattle.powers.proofs.power.db_to_gain.Statement.{statement}

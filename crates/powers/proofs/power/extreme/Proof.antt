@@ -1,3 +1,4 @@
+-- `extreme` meets its contract: `placed-over` past the last field; below the first `placed-below`, which is 0 from 64 places off on.
 use borrow.Author.Needs.{needs}
 use mathlib.Core.Path.{_≡_, sym, ap, _∙_}
 use Prim.Native.Nat.{ℕ, _+_, _-_, _*_, _/_, _^_, _≤_, _<_}

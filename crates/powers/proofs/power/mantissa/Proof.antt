@@ -1,3 +1,4 @@
+-- `mantissa` meets its contract: the callees' answers, put together; by `PowerTable` they fit.
 use borrow.Author.Needs.{needs}
 use mathlib.Core.Path.{_≡_}
 use Prim.Native.Nat.{ℕ, _+_, _*_, _/_, _%_, _<_}

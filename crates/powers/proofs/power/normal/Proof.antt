@@ -1,3 +1,4 @@
+-- `normal` meets its contract: `PlacedAt.placed-above`.
 use borrow.Author.Needs.{needs}
 use mathlib.Core.Path.{sym, ap}
 use Prim.Native.Nat.{ℕ, _+_, _*_, _/_, _≤_, _<_}

@@ -1,3 +1,4 @@
+-- `part` meets its contract: the product fits a word.
 use mathlib.Core.Path.{refl}
 use native.Mathlib.Omega.{arith}
 use Rattle.floats.proofs.Words.{product-fits}

@@ -1,3 +1,4 @@
+-- `placed_at` meets its contract: a field from 1 to 254 is `normal`'s, any other `extreme`'s.
 use borrow.Author.Needs.{needs}
 use mathlib.Core.Path.{_≡_, refl, _∙_}
 use Prim.Native.Nat.{ℕ, _+_, _/_, _%_, _^_, _≤_, _<_}

@@ -1,3 +1,4 @@
+-- `pow10` meets its contract: `power` at its base's logarithm, which is finite.
 use lib.Ieee.{ofBits}
 use Rattle.powers.specs.Power.{pow10}
 use Rattle.powers.proofs.power.pow10.Statement.{statement}

@@ -1,3 +1,4 @@
+-- `pow8` meets its contract: `power` at its base's logarithm, which is finite.
 use lib.Ieee.{ofBits}
 use Rattle.powers.specs.Power.{pow8}
 use Rattle.powers.proofs.power.pow8.Statement.{statement}

@@ -1,3 +1,4 @@
+-- `power` meets its contract: the four arms are the four cases of `edged`; between the edges z is a number.
 use borrow.Author.Needs.{needs}
 use mathlib.Core.Path.{_≡_, sym, _∙_, subst}
 use mathlib.Core.Bool.{Bool, true, not}

@@ -1,3 +1,4 @@
+-- `exp64` meets its contract: the four arms are the four cases of `edged`.
 use borrow.Author.Needs.{needs}
 use mathlib.Core.Path.{_≡_, sym, ap, _∙_, subst}
 use mathlib.Core.Bool.{Bool, not}

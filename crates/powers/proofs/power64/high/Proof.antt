@@ -1,3 +1,4 @@
+-- `high` meets its contract: `Halves.high-is` and `Halves.high-le`.
 use native.Mathlib.Omega.{arith}
 use Rattle.powers.specs.Exp64.{high}
 use Rattle.floats_laws.proofs.Halves.{Bounds, bounds, high-is, high-le}

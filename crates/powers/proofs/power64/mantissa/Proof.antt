@@ -1,3 +1,4 @@
+-- `mantissa` meets its contract: the callees' answers, put together; `high` is at most its second factor, so each sum fits.
 use native.Mathlib.Omega.{arith}
 use Rattle.powers.specs.Exp64.{expMantissa}
 use borrow.Author.Needs.{needs}

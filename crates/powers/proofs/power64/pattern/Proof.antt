@@ -1,3 +1,4 @@
+-- `pattern` meets its contract: `placed-over`, `placed-above` or `placed-below`, which is 0 from 64 places off on.
 use borrow.Author.Needs.{needs}
 use mathlib.Core.Path.{_≡_, sym, ap, _∙_}
 use Prim.Native.Nat.{ℕ, _+_, _-_, _*_, _/_, _^_, _≤_, _<_}

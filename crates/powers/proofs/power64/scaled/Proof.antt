@@ -1,3 +1,4 @@
+-- `scaled` meets its contract: the product's lower half is taken off first, then s places more; from 64 on nothing is left.
 use borrow.Author.Needs.{needs}
 use mathlib.Core.Path.{_≡_, refl, sym, ap, _∙_}
 use Prim.Native.Nat.{ℕ, _+_, _-_, _*_, _/_, _%_, _^_, _≤_, _<_}

@@ -1,3 +1,4 @@
+-- `sided` meets its contract: one test.
 use borrow.Author.Needs.{needs}
 use borrow.Author.Tests.{lt-ltb, le-ltb}
 use Rattle.powers.specs.Exp64.{sided}

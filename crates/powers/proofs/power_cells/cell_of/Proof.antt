@@ -1,3 +1,4 @@
+-- `cell_of` meets its contract: each arm's numbers are the entries of its place.
 use mathlib.Core.Path.{_≡_, refl}
 use Prim.Native.Nat.{ℕ, _≤_, _<_}
 use native.Mathlib.Omega.{arith}
