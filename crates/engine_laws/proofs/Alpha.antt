@@ -24,14 +24,6 @@ use Rattle.floats_laws.proofs.Fractions.{Under, Above, held, div-under}
 use Rattle.floats_laws.proofs.Between.{under-between, under-least, under-most, above-of}
 use Rattle.floats_laws.proofs.Units.{zero-fits}
 
--- ---- a lawful rate
-pub rate-above : (rate : Float) → T (lawfulRate rate) → Above rate 8000
-unfolding lawfulRate ofBits
-rate-above rate l =
-    let lowest = f32 0x45fa0000 in
-    let bounds = le lowest rate && le rate (f32 0x48bb8000) in
-    above-of lowest rate 8000 (lit< tt) (lit≤ tt) (and-l (le lowest rate) _ (and-r (finite rate) bounds l)) (and-l (finite rate) bounds l)
-
 -- ---- e to the power
 exp64-fits : (x : Float) → T (fits binary64 (exp64 x))
 unfolding exp64 edged fits
@@ -43,7 +35,7 @@ lower = fin true 11 (negsuc 11)
 abbrev upper : Float
 upper = fin false 11 (negsuc 11)
 
-abbrev one : Float
+abbrev pub one : Float
 one = f64 0x3ff0000000000000
 
 low-value : exp64 lower ≡ f64 0x3fefea078e44a18c

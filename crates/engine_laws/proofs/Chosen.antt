@@ -1,6 +1,6 @@
 -- A birth leaves an engine as sound as it was: the chosen slot is one of 256 or none, the newborn is fit, and 64 attempts are not passed.
 use Prim.Native.Nat.{ℕ, suc, _+_, _-_, _^_, _≤_, _<_}
-use native.Mathlib.Nat.{le-trans, le-of-eq, mod-lt}
+use native.Mathlib.Nat.{le-trans, le-of-eq}
 use native.Mathlib.Omega.{arith}
 use mathlib.Core.Path.{_≡_, refl, sym, _∙_, subst}
 use mathlib.Core.Logic.{_⊎_, inl, inr}
@@ -9,7 +9,6 @@ use mathlib.Core.List.{List, [], _∷_}
 use borrow.Author.Tests.{ltb-true, eqb-false}
 use lib.Dec.{ltb, eqb}
 use lib.ListN.{length, getD, set, length-set}
-use lib.Pow.{pow-pos}
 use lib.Ieee.{Float}
 use Rattle.floats.specs.Word.{grown}
 use Rattle.sequences.specs.Pick.{pick, either}
@@ -27,6 +26,7 @@ use Rattle.state.specs.Tallies.{droppedOne, hashOf, bornOne}
 use Rattle.births.specs.Birth.{chosenFor, withLast, triedOne, newbornFor, admittedOf, attemptedOf, bornOf}
 use Rattle.sequences.specs.Every.{Every, every-set, in-case}
 use Rattle.engine_laws.proofs.Sound.{Sound, Fit, FitPlace, Counted, Sounding, engine-newborn}
+use Rattle.timing_laws.proofs.Moves.{after-under}
 
 -- ---- the slot
 nth-most : (last i : ℕ) (ss : List Source) (n : ℕ) → nthFrom last i ss n ≤ i + length ss
@@ -137,18 +137,15 @@ sound-particles e ps s l h =
     }
 
 -- ---- the counters
-pub grown-word : (n : ℕ) → grown n < 2 ^ 64
-grown-word n = mod-lt (n + 1) (pow-pos 64)
-
 counted-dropped : (t : Tally) → Counted t → Counted (droppedOne t)
-counted-dropped t c = record { births = c .births; dropped = grown-word (t .dropped); hash = c .hash }
+counted-dropped t c = record { births = c .births; dropped = after-under (t .dropped); hash = c .hash }
 
 counted-tried : (t : Tally) → Counted t → Counted (triedOne t)
 counted-tried t c = record { births = c .births; dropped = c .dropped; hash = c .hash }
 
 counted-born : (t : Tally) (index sample : ℕ) (p : Particle) → Counted t → Counted (bornOne t index sample p)
 unfolding bornOne hashOf
-counted-born t index sample p c = record { births = grown-word (t .births); dropped = c .dropped; hash = mix-lt _ }
+counted-born t index sample p c = record { births = after-under (t .births); dropped = c .dropped; hash = mix-lt _ }
 
 born-attempts : (t : Tally) (index sample : ℕ) (p : Particle) → bornOne t index sample p .attempts ≡ t .attempts
 unfolding bornOne

@@ -25,6 +25,7 @@ use Rattle.floats_laws.proofs.Again.{euclid-fits}
 use Rattle.state.specs.declared.Clock.{Clock}
 use Rattle.engine_samples.specs.Sample.{glidedOf}
 use Rattle.engine_changes.specs.Changes.{soughtPhase}
+use Rattle.engine_laws.proofs.Alpha.{one}
 use Rattle.floats_laws.proofs.Fractions.{Under, Above, held, under-finite, under-more, under-mag, mag-under, add-under, mul-under, div-under}
 use Rattle.floats_laws.proofs.Between.{under-between, under-most, under-least, sum-from-zero}
 use Rattle.state.specs.State.{referenceNow}
@@ -77,9 +78,6 @@ next-phase phase step k l p s =
 -- ---- the offset
 abbrev half : Float
 half = f64 0x3fe0000000000000
-
-abbrev one : Float
-one = f64 0x3ff0000000000000
 
 pub offset-mag : (x : Float) (k : ℕ) → k ≤ 2 ^ 40 → Under x (offsetMost k) 2048 → Mag x (2 ^ 31)
 offset-mag x k l h = under-mag x (2 ^ 31) 2048 (lit< tt) (under-more x (offsetMost k) (2 ^ 31 * 2048) 2048 (omega arith) h)

@@ -36,10 +36,12 @@ use Rattle.engine_laws.proofs.Joins.{steps-count, grown-small}
 use Rattle.engine_laws.proofs.Sound.{Sound, Settled, Sounding, past-formed}
 use Rattle.engine_laws.proofs.Kept.{held-retire-bound, held-retune-one}
 use Rattle.engine_laws.proofs.Voices.{FormedSource, pitched-sounds}
-use Rattle.engine_laws.proofs.Chosen.{grown-word, none-sounding, sound-next, sound-born}
+use Rattle.engine_laws.proofs.Chosen.{none-sounding, sound-next, sound-born}
 use Rattle.engine_laws.proofs.Stays.{sound-streams, sound-clock, sound-config, sound-weights, sound-source, sound-mapped, sound-retired, no-source-formed, three-aligned, three-prepared, permitted-sounding}
-use Rattle.engine_laws.proofs.Frames.{sound-renewed, yes}
+use Rattle.engine_laws.proofs.Frames.{sound-renewed}
 use Rattle.engine_laws.proofs.Performed.{tried, lane-done, deliver-done, weigh-done, switch-done, offset-done, advance-done, calls-are-acts}
+use Rattle.timing_laws.proofs.Moves.{after-under}
+use denote.Floats.{passes}
 
 -- what is true of an act that a call makes
 abbrev pub Meant : Engine → Act → Type 0
@@ -61,7 +63,7 @@ sound-act e (birth index own) m s = sound-born e index own s m
 sound-act e retire m s = sound-retired e s
 sound-act e (retireBound slot) m s = sound-mapped e (retireBoundOne slot (e .clock .sample)) s (held-retire-bound slot (e .clock .sample))
 sound-act e (retune slot hz) m s = sound-mapped e (retuneOne slot hz) s (held-retune-one slot (e .clock .sample) hz (m .0) (m .1))
-sound-act e (frame seconds) m s = sound-renewed e _ (activity-unit (e .activity) (e .config .enabled) seconds (m .0) (yes (accepted seconds) (m .1)) (s .active)) s
+sound-act e (frame seconds) m s = sound-renewed e _ (activity-unit (e .activity) (e .config .enabled) seconds (m .0) (passes (accepted seconds) (m .1)) (s .active)) s
 sound-act e (source slot x) m s = sound-source e slot x m s
 sound-act e (streams ss) m s = sound-streams e ss m s
 sound-act e (next n) m s = sound-next e n s (m .0) (m .1)
@@ -177,8 +179,8 @@ calls-meant e (retireSource slot) f s = either (AllMeant e) _ _ _ (no-source-for
 calls-meant e (releaseSource slot) f s =
     let old = every-getD FormedSource (e .sources) slot pastSource past-formed (s .formed) in
     either (AllMeant e) _ _ _ (record { hz = old .hz; strength = old .strength }, tt) tt
-calls-meant e (trigger slot) f s = ((s .last, grown-word _), trigger-meant (reservedOf e .engine) slot (e .next .«immediate_index»))
-calls-meant e reserve f s = ((s .last, grown-word _), tt)
+calls-meant e (trigger slot) f s = ((s .last, after-under _), trigger-meant (reservedOf e .engine) slot (e .next .«immediate_index»))
+calls-meant e reserve f s = ((s .last, after-under _), tt)
 calls-meant e (reserved slot index) f s = trigger-meant e slot index
 calls-meant e (seek cycles) f s = (tt, ((le-refl _, s .time), ((le-refl 256, pow-pos 64), (three-aligned _ (e .config .sync), tt))))
 calls-meant e (advance n) f s = in-case (AllMeant e) (leb (e .clock .sample + n) (2 ^ 40)) _ _ (λ q. advance-meant n e s (leb-true _ _ q)) (λ q. tt)

@@ -10,7 +10,7 @@ use lib.ListN.{length, length-map, length-set}
 use lib.Ieee.{Float, binary32, fits, ofBits, ofFields, rem, add, sum, round, le, lt, eq, odd}
 use lib.Ieee.Bits.{ofBits-fits}
 use Rattle.state.specs.declared.Clock.{Clock}
-use Rattle.sequences.specs.Pick.{pick}
+use Rattle.sequences.specs.Pick.{pick, both}
 use Rattle.floats.specs.Names.{f32}
 use Rattle.timing.specs.declared.SprinkleStream.{SprinkleStream}
 use Rattle.timing.specs.Streams.{alignedAll}
@@ -37,7 +37,7 @@ use Rattle.sequences.specs.Every.{every-map, every-set, every-replicate, in-cas
 use Rattle.engine_laws.specs.Acts.{Singles}
 use Rattle.engine_laws.proofs.Sound.{FitPlace, Settled, Made, Sound, Sounding, fit-later}
 use Rattle.engine_laws.proofs.Kept.{held-retire-one}
-use Rattle.engine_laws.proofs.Voices.{FormedSource, both}
+use Rattle.engine_laws.proofs.Voices.{FormedSource}
 use Rattle.engine_laws.proofs.Chosen.{sound-particles}
 use Rattle.engine_laws.proofs.Frames.{free-held}
 

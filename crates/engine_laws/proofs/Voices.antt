@@ -1,14 +1,14 @@
 -- What a birth sounds: a source that may be chosen, or a free voice, has a frequency above 0 and finite, and a strength from 0 to 1.
 use Prim.Native.Nat.{ℕ}
 use mathlib.Core.Path.{_≡_, refl, sym, ap, subst}
-use mathlib.Core.Bool.{Bool, true, false, false≢true}
+use mathlib.Core.Bool.{true, false}
 use lib.Count.{trailingZeros}
 use lib.Dec.{T}
 use lib.Ieee.{Float, binary32, binary64, add, mul, sum, round, size, span, climb, units, odd, lt, le, eq, isNan, fits, ofBits, ofFields, toBits, toUnsigned}
 use lib.Ieee.Bits.{is-true}
 use lib.Ieee.Fits.{mul-fits}
 use lib.Ieee.Scale.{finite}
-use Rattle.sequences.specs.Pick.{pick}
+use Rattle.sequences.specs.Pick.{both}
 use Rattle.floats.specs.Names.{f32, f64, mul32, div64}
 use Rattle.floats.specs.Choose.{min}
 use Rattle.floats.specs.Whole.{floor}
@@ -38,6 +38,7 @@ use Rattle.frame_laws.proofs.Newborn.{Voiced}
 use Rattle.floats_laws.proofs.Fitting.{own-convert}
 use Rattle.floats_laws.proofs.Units.{one as i, one-fits, zero-fits}
 use Rattle.pitch.specs.Highest.{maxHzOf}
+use denote.Floats.{passes}
 
 -- what a Source of the code always has: its floats are f32s
 pub record FormedSource (s : Source) : Type 0 where
@@ -45,17 +46,9 @@ pub record FormedSource (s : Source) : Type 0 where
   pub strength : T (fits binary32 (s .strength))
 
 -- ---- with a source
-pub both : (a b : Bool) → pick a b false ≡ true → (a ≡ true) × (b ≡ true)
-unfolding pick
-both true b h = (refl, h)
-both false b h = absurd (false≢true h)
-
-holds : (b : Bool) → b ≡ true → T b
-holds b e = subst T (sym e) tt
-
 pub pitched-sounds : (x : Float) → isPitched x ≡ true → T (lt nought x) × T (finite x)
 unfolding isPitched ofBits
-pitched-sounds x h = let b = both (finite x) (lt nought x) h in (holds (lt nought x) (b .1), holds (finite x) (b .0))
+pitched-sounds x h = let b = both (finite x) (lt nought x) h in (passes (lt nought x) (b .1), passes (finite x) (b .0))
 
 pub source-voiced : (slot : ℕ) (s : Source) → isEligible s ≡ true → FormedSource s → Voiced (sourceVoiceOf slot s)
 unfolding isEligible sourceVoiceOf ofBits

@@ -87,7 +87,7 @@ settled-rolloff : (c : Config) → Settled c → T (fits binary32 (c .«partial_
 unfolding mendedOf
 settled-rolloff c h = subst (λ (d : Config). T (fits binary32 (d .«partial_rolloff_db»))) (sym (h .is)) (held-fits (h .asked .«partial_rolloff_db») (f32 0x40c00000) zero32 (f32 0x41c00000) (h .singles .rolloff) (ofBits-fits binary32 0x40c00000) (ofBits-fits binary32 0) (ofBits-fits binary32 0x41c00000))
 
-made-logs : (p : Prepared) → Made p → Logs (p .«partial_logs»)
+pub made-logs : (p : Prepared) → Made p → Logs (p .«partial_logs»)
 unfolding preparedOf
 made-logs p m = subst (λ (q : Prepared). Logs (q .«partial_logs»)) (sym (m .is)) engine-logs
 

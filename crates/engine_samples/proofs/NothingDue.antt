@@ -1,10 +1,10 @@
 -- A sample at which nothing is due moves the clock alone, and so do those of `wait`.
 use Prim.Native.Nat.{ℕ, zero, suc, _+_}
 use mathlib.Core.Path.{_≡_, refl, sym, ap, _∙_, subst}
-use mathlib.Core.Bool.{Bool, true, false, false≢true}
+use mathlib.Core.Bool.{true, false}
 use lib.Ieee.{Float, lt}
 use lib.ListN.{getD}
-use Rattle.sequences.specs.Pick.{pick, picked, passed, took, skipped, by-case}
+use Rattle.sequences.specs.Pick.{pick, picked, passed, took, skipped, by-case, both}
 use Rattle.sequences.specs.Times.{iterate, iterate-none, iterate-more, iterate-add}
 use Rattle.floats.proofs.Below.{lt-not-le}
 use Rattle.settings.specs.declared.Shape.{Shape}
@@ -20,11 +20,6 @@ use Rattle.engine_samples.specs.declared.waiting.Waited.{Waited}
 use Rattle.engine_samples.specs.Waiting.{startsOf, shapeStarts, nothingDue, clockAfter, waitedOf, startsFor, tempoFor}
 
 -- ---- before every start
-both : (t u : Bool) → pick t u false ≡ true → (t ≡ true) × (u ≡ true)
-unfolding pick
-both true u h = (refl, h)
-both false u h = absurd (false≢true h)
-
 before-each : (s : Starts) (r : Float) → nothingDue s r ≡ true → (lt r (s .first) ≡ true) × (lt r (s .second) ≡ true) × (lt r (s .third) ≡ true)
 unfolding nothingDue
 before-each s r h =

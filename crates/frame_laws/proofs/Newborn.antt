@@ -16,7 +16,7 @@ use lib.Ieee.Order.{round-mono}
 use lib.Ieee.Scale.{finite}
 use Rattle.sequences.specs.Pick.{either}
 use Rattle.sequences.specs.Table.{table-at}
-use Rattle.floats.specs.Names.{f32, one}
+use Rattle.floats.specs.Names.{f32, one, half}
 use Rattle.floats.specs.Choose.{clamp}
 use Rattle.floats_laws.proofs.Bounds.{add-mag, mul-mag}
 use Rattle.floats_laws.proofs.Choosing.{clamp-least, clamp-fits}
@@ -35,7 +35,7 @@ use Rattle.elementary.specs.Log2.{log2Of}
 use Rattle.elementary_laws.proofs.LogRises.{log2-within}
 use Rattle.pitch.specs.Octave.{registerOf}
 use Rattle.pitch.specs.Register as register
-use Rattle.pitch_laws.proofs.Octaves.{WholeUpto, octave-whole}
+use Rattle.pitch_laws.proofs.Octaves.{WholeUpto, octave-whole, root-log}
 use Rattle.pitch_laws.proofs.Ranges.{strength-in}
 use Rattle.pitch_laws.proofs.Tops.{Top, rate-top}
 use Rattle.settings.specs.declared.Config.{Config}
@@ -52,7 +52,7 @@ use Rattle.births.specs.declared.voices.Voice.{Voice}
 use Rattle.births.specs.Births.{registerBy, widthOf, openingOf, strengthOf, newbornOf}
 use Rattle.state.specs.Make.{partialLogs}
 use Rattle.frame_laws.proofs.Strengths.{Rated}
-use Rattle.frame_laws.proofs.Shapes.{Logs, log-mag}
+use Rattle.frame_laws.proofs.Shapes.{Logs}
 use Rattle.frame_laws.proofs.Windowed.{Fair}
 use Rattle.pitch.specs.Highest.{maxHzOf, rate32}
 
@@ -79,7 +79,7 @@ harmonic-log : (n : ℕ) → n < 24 → Mag (log2Of (ofInt binary32 (pos (n + 1)
 unfolding ofInt lt
 harmonic-log n h =
     let x = round binary32 false (n + 1) 1 in
-    log-mag x (round-fits binary32 false (n + 1) 1)
+    root-log x (round-fits binary32 false (n + 1) 1)
     (lt-le nought (round binary32 false 1 1) x one-above (round-mono binary32 1 1 (n + 1) 1 (zero-lt-suc 0) (zero-lt-suc 0) (omega arith)))
     (mag-finite x 24 (within binary32 false (n + 1) 1 24 (zero-lt-suc 0) (lit≤ tt) (omega arith)))
 
@@ -167,9 +167,6 @@ module _ (index : ℕ) (hz maxHz : Float) (direction : Direction) (f : T (fits b
 -- ---- width
 abbrev eighth : Float
 eighth = f32 0x3e000000
-
-abbrev half : Float
-half = f32 0x3f000000
 
 abbrev low : Float
 low = f32 0x3f266666

@@ -7,7 +7,7 @@ use mathlib.Core.Bool.{Bool, true, false, not, cond}
 use mathlib.Core.List.{List}
 use lib.IntN.{ℤ, pos}
 use lib.Dec.{T, lit≤, lt→ltb, eqb·suc-zero}
-use lib.Ieee.{Float, nan, inf, fin, binary32, ofBits, toBits, up, down, round, add, div, neg, lt, le, eq, fits, isNan}
+use lib.Ieee.{Float, nan, inf, fin, binary32, ofBits, toBits, up, down, round, add, div, lt, le, eq, fits, isNan}
 use lib.Ieee as Ieee
 use lib.Ieee.Order.{round-mono}
 use lib.Ieee.Fits.{up-pos, add-fits, div-fits}
@@ -18,7 +18,6 @@ use Rattle.sequences.specs.Pick.{by-case}
 use Rattle.floats.specs.Choose.{max}
 use Rattle.floats_laws.proofs.Bounds.{add-mag}
 use Rattle.floats_laws.proofs.Choosing.{max-fits, max-right}
-use Rattle.floats_laws.proofs.Ends.{mag-between}
 use Rattle.floats_laws.proofs.Gap.{quotient-number}
 use Rattle.floats_laws.proofs.Mag.{Mag, le-of, mag-le}
 use Rattle.floats_laws.proofs.Patterns.{bits-mono}
@@ -28,9 +27,9 @@ use Rattle.floats_laws.proofs.Rules.{finite-number, lt→le, add-number, betwee
 use Rattle.floats_laws.proofs.Spans.{lt-le}
 use Rattle.floats.proofs.Values.{own-round}
 use Rattle.elementary.specs.Log2.{log2Of}
-use Rattle.elementary_laws.proofs.LogExact.{log2-fits}
-use Rattle.elementary_laws.proofs.LogRises.{least, most, log2-within}
+use Rattle.elementary_laws.proofs.LogRises.{log2-within}
 use Rattle.pool.specs.declared.Particle.{Particle}
+use Rattle.pitch_laws.proofs.Octaves.{root-log}
 use Rattle.floats.specs.Names.{zero32, one}
 use Rattle.frame.specs.declared.places.Shown.{Shown}
 use Rattle.frame.specs.Shown.{rootLogOf}
@@ -39,10 +38,6 @@ use Rattle.floats_laws.proofs.Proportions.{one-and-nothing, to-nought, from-rou
 use Rattle.floats_laws.proofs.Units.{one as i, one-fits, zero-fits}
 
 -- ---- the centre
-pub log-mag : (x : Float) → T (fits binary32 x) → T (lt nought x) → T (finite x) → Mag (log2Of x) 149
-unfolding fits neg
-log-mag x p h f = let w = log2-within x p h f in mag-between binary32 least most (log2Of x) 149 tt (log2-fits x) (w .from) (w .to) (omega arith) (omega arith)
-
 -- what the windows need of a particle; a birth gives it
 pub record Pitched (p : Particle) : Type 0 where
   pub hz-fits : T (fits binary32 (p .«frequency_hz»))
@@ -55,7 +50,7 @@ pub record Pitched (p : Particle) : Type 0 where
 
 pub root-mag : (p : Particle) → Pitched p → Mag (rootLogOf p) 405
 unfolding rootLogOf
-root-mag p t = add-mag binary32 (log2Of (p .«frequency_hz»)) (p .octave) 149 256 (omega arith) (log-mag (p .«frequency_hz») (t .hz-fits) (t .hz-above) (t .hz-finite)) (t .octave)
+root-mag p t = add-mag binary32 (log2Of (p .«frequency_hz»)) (p .octave) 149 256 (omega arith) (root-log (p .«frequency_hz») (t .hz-fits) (t .hz-above) (t .hz-finite)) (t .octave)
 
 -- the logarithms of the harmonics, or any of that size
 abbrev pub Logs : List Float → Type 0

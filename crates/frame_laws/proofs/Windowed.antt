@@ -44,7 +44,7 @@ record Fit (s : Shown) : Type 0 where
   width-above : T (lt nought (s .width))
   width-finite : T (finite (s .width))
 
-abbrev NoneOrGood : Float → Window → Type 0
+abbrev pub NoneOrGood : Float → Window → Type 0
 NoneOrGood binHz w = (w ≡ emptyWindow) ⊎ Good binHz w
 
 module _ (logs : List Float) (l : Logs logs) (binHz maxHz : Float) where

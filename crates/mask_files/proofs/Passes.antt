@@ -17,9 +17,9 @@ use Rattle.mask_files.specs.declared.Measured.{Measured}
 use Rattle.mask_files.specs.declared.Walk.{Walk}
 use Rattle.mask_files.specs.Records.{filedOf}
 use Rattle.mask_files.specs.Walk.{walkStart, measuredOf}
-use Rattle.mask_files.proofs.Records.{refused-not}
 use Rattle.mask_files.proofs.Passing.{filedFrom}
 use Rattle.mask_files.proofs.Steps.{Stands, leftOf, Recorded, Unrecorded, ends, full}
+use Rattle.mask_gains.proofs.Shaped.{apart}
 
 abbrev pub wholeOf : Float → List Float → List ℕ → List ℕ × Answer
 wholeOf depth logs script = filedOf depth logs (turnsOf script)
@@ -132,5 +132,5 @@ module _ (depth : Float) (logs : List Float) (script o : List ℕ) (start : ℕ)
     writing-ends a h e = g .goes out at (subst (λ (x : List ℕ × Answer). Put out out at at (x .0)) (sym e) (nothing out at)) .fits h
 
     pub writing-stops : (r : Refusal) → Unrecorded (leftOf depth logs script walk) (length out) (recordSize (length logs)) at r → ⊥
-    writing-stops r (ends e) = refused-not r (sym (ap (λ (x : List ℕ × Answer). x .1) e) ∙ g .taken)
+    writing-stops r (ends e) = apart r (sym (g .taken) ∙ ap (λ (x : List ℕ × Answer). x .1) e)
     writing-stops r (full h s) = let fits = g .room in omega arith

@@ -38,9 +38,9 @@ abbrev pub filedFrom : Float → List Float → ℕ → Run → ℕ → List ℕ
 filedFrom depth logs f run n s = filedOf depth logs (turnsFrom f run n s)
 
 -- ---- which lines a walk passes by
-frame-ends : (n : ℕ) (line : Line) (k : ℕ) → isFrameless line ≡ false → goesOn U.Frame line k ≡ false
+frame-ends : (line : Line) (k : ℕ) → isFrameless line ≡ false → goesOn U.Frame line k ≡ false
 unfolding goesOn
-frame-ends n line k h = by-case (eqb k 0) (λ y. sym (picked (eqb k 0) false (isFrameless line) y)) (λ y. sym (passed (eqb k 0) false (isFrameless line) y) ∙ h)
+frame-ends line k h = by-case (eqb k 0) (λ y. sym (picked (eqb k 0) false (isFrameless line) y)) (λ y. sym (passed (eqb k 0) false (isFrameless line) y) ∙ h)
 
 -- a line that stops the walk and is no frame's takes no byte
 pub last-takes-none : (line : Line) (k : ℕ) → goesOn U.Frame line k ≡ false → isFrameless line ≡ true → k ≡ 0
@@ -77,7 +77,7 @@ module _ (depth : Float) (logs : List Float) where
     reply-adds : (n k : ℕ) (run : Run) (a : Reply) → goesOn U.Frame (repliedOf n k run a .line) (repliedOf n k run a .taken) ≡ true → filedBy depth logs f (repliedOf n k run a .line) rest ≡ rest
     reply-adds n k run R.Quiet h = refl
     reply-adds n k run (R.Refused r) h = refusal-adds (eqb n 1) run n k r h
-    reply-adds n k run (R.Framed v) h = absurd (false≢true (sym (frame-ends n (L.Frame n v) k refl) ∙ h))
+    reply-adds n k run (R.Framed v) h = absurd (false≢true (sym (frame-ends (L.Frame n v) k refl) ∙ h))
 
     read-adds : (run : Run) (n : ℕ) (r : Read) → goesOn U.Frame (afterOf run n r .line) (afterOf run n r .taken) ≡ true → filedBy depth logs f (afterOf run n r .line) rest ≡ rest
     read-adds run n (S.Field x k) h = reply-adds n k (stepOf run x .run) (stepOf run x .reply) h

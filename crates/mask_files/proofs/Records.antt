@@ -1,13 +1,11 @@
 -- A script that is read to its end has the record of each accepted frame, one behind the other.
 use mathlib.Core.Path.{_≡_, refl, sym, ap, _∙_}
-use mathlib.Core.Bool.{Bool, true, false, false≢true}
 use mathlib.Core.List.{List, [], _∷_, _++_}
 use Prim.Native.Nat.{ℕ}
 use lib.Ieee.{Float}
 use Rattle.sequences.specs.Pick.{by-case, picked, passed}
 use Rattle.refusals.specs.declared.Answer.{Answer}
 use Rattle.refusals.specs.declared.Answer.the-variants.{Taken, Refused}
-use Rattle.refusals.specs.declared.Refusal.{Refusal}
 use Rattle.refusals.specs.declared.Refusal.the-variants.{Attenuation}
 use Rattle.windows.specs.declared.Frame.{Frame}
 use Rattle.listing.specs.declared.lines.Line.{Line}
@@ -17,14 +15,7 @@ use Rattle.mask_records.specs.Bytes.{recordOf, fileOf}
 use Rattle.mask_records.specs.Written.{entriesOf}
 use Rattle.mask_laws.specs.Files.{Record}
 use Rattle.mask_files.specs.Records.{allNumbers, filedBy, filedOf, recordBy, recordsIn}
-
-is-taken : Answer → Bool
-is-taken Taken = true
-is-taken (Refused k) = false
-
-pub refused-not : (k : Refusal) → Refused k ≡ Taken → ⊥
-unfolding is-taken
-refused-not k e = false≢true (ap is-taken e)
+use Rattle.mask_gains.proofs.Shaped.{apart}
 
 module _ (depth : Float) (logs : List Float) where
   by-line : (f : Frame) (l : Line) (rest : List ℕ × Answer) (rs : List Record) → (rest .1 ≡ Taken → rest .0 ≡ fileOf rs)
@@ -39,9 +30,9 @@ module _ (depth : Float) (logs : List Float) where
       ap (λ (x : List ℕ × Answer). x .0) is ∙ ap (λ (x : List ℕ). entry ++ x) (h (sym (ap (λ (x : List ℕ × Answer). x .1) is) ∙ e)))
       (λ y.
       let is = sym (passed (allNumbers f depth logs) (entry ++ rest .0, rest .1) ([], Refused Attenuation) y) in
-      absurd (refused-not Attenuation (sym (ap (λ (x : List ℕ × Answer). x .1) is) ∙ e)))
+      absurd (apart Attenuation (sym e ∙ ap (λ (x : List ℕ × Answer). x .1) is)))
   by-line f (L.Refused n r) rest rs h e = h e
-  by-line f (L.Bad n r) rest rs h e = absurd (refused-not r e)
+  by-line f (L.Bad n r) rest rs h e = absurd (apart r (sym e))
   by-line f (L.End n) rest rs h e = h e
 
   pub filed-records : (ts : List Turn) → filedOf depth logs ts .1 ≡ Taken → filedOf depth logs ts .0 ≡ fileOf (recordsIn depth logs ts)

@@ -20,7 +20,7 @@ is-taken : Answer → Bool
 is-taken Taken = true
 is-taken (Refused k) = false
 
-apart : (k : Refusal) → Taken ≡ Refused k → ⊥
+pub apart : (k : Refusal) → Taken ≡ Refused k → ⊥
 unfolding is-taken
 apart k e = false≢true (sym (ap is-taken e))
 

@@ -20,6 +20,7 @@ use Rattle.floats_laws.proofs.Rising.{nought, neg-falls, not-above, not-itself}
 use Rattle.floats_laws.proofs.Rules.{neg-finite, add-number, finite-number}
 use Rattle.floats_laws.proofs.Gap.{gap-below, gap-above, div-one, one-less}
 use Rattle.floats_laws.proofs.Units.{one as i, zero-fits}
+use Rattle.floats_laws.proofs.Proportions.{one-less-one}
 use Rattle.windows.specs.declared.Window.{Window}
 use Rattle.floats.specs.Names.{zero32, one}
 use Rattle.windows.specs.Opening.{cubic, taperOf, insideOf, opennessOf}
@@ -92,10 +93,6 @@ abs-above (fin true m e) (fin false (suc n) g) u k h =
     absurd (let w : 0 < suc n * up g = mul-pos (zero-lt-suc n) (up-pos g) in let v : 0 < suc n * up g * down e = mul-pos w (down-pos e) in omega (arith, le→signed false (suc n) g true m e h, zero-mul (down e), zero-mul (down g)))
 
 -- ---- outside the range
-nothing-left : sub binary32 i i ≡ nought
-unfolding sub add neg Ieee.sum round Ieee.units Ieee.odd Ieee.size Ieee.span Ieee.climb
-nothing-left = refl
-
 zero-times : (a : Float) → T (finite a) → T (lt nought a) → mul binary32 a nought ≡ nought
 unfolding mul
 zero-times nan u k = absurd u
@@ -131,7 +128,7 @@ module _ (w : Window) (log : Float) (fr : T (fits binary32 (w .«radius_octaves�
       let d = abs (sub binary32 log c) in
       let q = div binary32 d r in
       taper-at (sub binary32 i q) (sub-fits binary32 i q)
-      (subst (λ (x : Float). T (le (sub binary32 i q) x)) nothing-left (one-less binary32 q (div-fits binary32 d r) (div-one binary32 d r ur kr (outside h))))
+      (subst (λ (x : Float). T (le (sub binary32 i q) x)) one-less-one (one-less binary32 q (div-fits binary32 d r) (div-one binary32 d r ur kr (outside h))))
 
   pub shut : T (finite (w .amplitude)) → T (lt nought (w .amplitude)) → le r zero32 ≡ false → touches w log ≡ false → opennessOf w log ≡ nought
   unfolding opennessOf

@@ -27,10 +27,10 @@ pub apart : (p : ℕ) (k : Refusal) → Upto p ≡ Refused k → ⊥
 unfolding is-placed
 apart p k e = false≢true (sym (ap is-placed e))
 
-abbrev One : Type 0
+abbrev pub One : Type 0
 One = Written × List ℕ
 
-abbrev Both : Type 0
+abbrev pub Both : Type 0
 Both = Written × List Float × List ℕ
 
 module _ (r : Written) (u t o : List ℕ) (q : ℕ) (x s x₀ : List Float) where

@@ -3,7 +3,7 @@ use Prim.Native.Nat.{ℕ, zero, suc, _+_, _*_, _/_, _^_, _≤_, _<_}
 use native.Mathlib.Nat.{le-antisymm, le-of-suc-le-suc, lt-irrefl, lt-of-lt-of-le, mul-one, mul-pos, lt-of-mul-lt-mul-right, pow-le-pow-right, div-add-mod', mod-lt, div-lt-iff-lt-mul, zero-mul}
 use native.Mathlib.Omega.{arith}
 use mathlib.Core.Path.{_≡_, refl, sym, ap, _∙_, subst}
-use mathlib.Core.Bool.{true, false, false≢true}
+use mathlib.Core.Bool.{true, false}
 use lib.IntN.{ℤ, pos, negsuc}
 use lib.Dec.{T, leb, ltb, eqb, eqb→eq}
 use lib.Pow.{pow-pos}
@@ -13,6 +13,7 @@ use borrow.Author.Tests.{leb-true, leb-false, ltb-true, ltb-false, eqb-true, eqb
 use Rattle.sequences.specs.Pick.{pick, picked, passed, either, by-case}
 use Rattle.floats.proofs.Values.{fine, same-fin}
 use Rattle.floats.proofs.Pack.{pow-lt-back}
+use Rattle.floats.proofs.Narrow.{is-nan}
 use Rattle.floats.specs.Choose.{clamp}
 use Rattle.floats.specs.Names.{f64, add64, mul64, zero32}
 use Rattle.floats_laws.proofs.Rising.{nought}
@@ -113,12 +114,6 @@ whole-is (fin s m e) M =
     least-is 600 0 (whole (fin s m e)) (m * up e) (down e) (omega arith) (whole-most (fin s m e) M) (t .0) (t .1)
 
 -- ---- every attenuation
-is-nan : (a : Float) → isNan a ≡ true → a ≡ nan
-unfolding isNan
-is-nan nan h = refl
-is-nan (inf s) h = absurd (false≢true h)
-is-nan (fin s m e) h = absurd (false≢true h)
-
 nothing : coded (held nan) ≡ nearest (held nan)
 unfolding clamp lt toUnsigned add mul ofBits
 nothing = refl

@@ -15,6 +15,7 @@ use Rattle.floats.specs.Names.{zero32}
 use Rattle.mask_records.specs.Decibels.{entryOf}
 use Rattle.mask_records.proofs.Nearest.{no-tenths}
 use Rattle.mask_records.proofs.Ruled.{first-entry}
+use Rattle.mask_records.proofs.Answers.{One, Both}
 use Rattle.refusals.specs.declared.Answer.{Answer}
 use Rattle.refusals.specs.declared.Refusal.the-variants.{Room, Attenuation}
 use Rattle.windows.specs.declared.Window.{Window}
@@ -29,12 +30,6 @@ use Rattle.mask_records.specs.Entries.{entryAttenuation, attenuationAt, 
 use Rattle.mask_records.specs.Placed.{recordSize, placedOf}
 use Rattle.mask_records.specs.Finished.{filledOf, finishedOf}
 use Rattle.mask_records.specs.Written.{entriesOf, scratchOf, recordWritten}
-
-abbrev One : Type 0
-One = Written × List ℕ
-
-abbrev Both : Type 0
-Both = Written × List Float × List ℕ
 
 -- logs that refusals 5 and 6 let pass
 pub opened-is : (ws : List Window) (logs xs ys : List Float) (r : Answer) → length xs ≡ length logs → lawfulLogs logs ≡ true → (r, ys) ≡ openedOf ws logs xs → ys ≡ table (length logs) (openAt ws logs)

@@ -56,7 +56,7 @@ above-zero : (x y : Float) → T (fits binary32 x) → T (fits binary32 y) → T
 unfolding fits
 above-zero x y f g h l = lt-le nought x y h l
 
-root-log : (x : Float) → T (fits binary32 x) → T (lt nought x) → T (finite x) → Mag (log2Of x) 149
+pub root-log : (x : Float) → T (fits binary32 x) → T (lt nought x) → T (finite x) → Mag (log2Of x) 149
 unfolding neg fits
 root-log x f h k = let w = log2-within x f h k in mag-between binary32 least most (log2Of x) 149 tt (log2-fits x) (w .from) (w .to) (lit≤ tt) (lit≤ tt)
 

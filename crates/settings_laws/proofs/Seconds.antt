@@ -1,23 +1,26 @@
 -- Bounds of Sprinkle's stages and of the hop's floor: each at most 5 seconds, and a stage at least 1 / 500.
 use Prim.Native.Nat.{ℕ, _*_, _^_, _≤_, _<_}
-use native.Mathlib.Nat.{le-trans, le-of-eq, mul-comm, mul-assoc, mul-one, mul-pos, zero-mul, mul-le-mul-right}
+use native.Mathlib.Nat.{le-trans, le-of-eq, mul-comm, mul-assoc, mul-pos, zero-mul, mul-le-mul-right}
 use native.Mathlib.Omega.{arith}
 use mathlib.Core.Path.{_≡_, refl, sym, ap, _∙_}
-use mathlib.Core.Bool.{Bool, true, false}
+use mathlib.Core.Bool.{Bool, true, false, _&&_}
 use lib.IntN.{pos}
-use lib.Dec.{T, eqb, eqb→eq, lit≤}
+use lib.Dec.{T, eqb, eqb→eq, lit≤, lit<}
 use lib.Pow.{pow-pos}
-use lib.Ieee.{Float, nan, inf, fin, binary32, up, down, ofBits, ofInt, mul, div, round, lt, le, eq, unlike}
+use lib.Ieee.{Float, nan, inf, fin, binary32, up, down, ofBits, ofInt, mul, div, round, le, unlike}
 use lib.Ieee.Fits.{down-pos, and-l, and-r}
 use lib.Ieee.Exact.{HasValue}
+use lib.Ieee.Scale.{finite}
 use denote.Floats.{passes}
 use Rattle.sequences.specs.Pick.{by-case}
 use Rattle.floats.specs.Names.{f32, mul32, div32, sub32, two}
 use Rattle.floats.specs.Choose.{max}
-use Rattle.floats_laws.proofs.Mag.{Mag, Upto, Least, round-mag, round-upto, le-of}
+use Rattle.floats_laws.proofs.Mag.{Mag, Upto, Least, round-mag, round-upto}
 use Rattle.floats_laws.proofs.Bounds.{max-mag, mul-upto, of-upto, apart-mag}
+use Rattle.floats_laws.proofs.Between.{above-of}
 use Rattle.floats_laws.proofs.Held.{max-least}
 use Rattle.floats_laws.proofs.Spans.{least-upto, max-least-left}
+use Rattle.floats_laws.proofs.Fractions.{Above}
 use Rattle.settings.specs.Settings.{maxHop, lawfulRate}
 use Rattle.settings.specs.Envelope.{milli, minStage, hopFloorOf, onsetOf, releaseOf}
 
@@ -37,21 +40,12 @@ millis-mag (fin s m e) h = go (unlike s false)
 
 -- ---- the hop's floor: at most 32768 / 8000
 -- a lawful rate is at least 8000
-unfoldable Rate : Float → Type 0
-Rate nan = ⊥
-Rate (inf s) = ⊥
-Rate (fin true n d) = ⊥
-Rate (fin false n d) = 8000 * down d ≤ n * up d
-
-lawful : (r : Float) → T (lawfulRate r) → Rate r
-unfolding lawfulRate Rate le lt eq ofBits
-lawful nan h = h
-lawful (inf s) h = h
-lawful (fin true n d) h = none (down d) (down-pos d) (eqb→eq (8000 * down d) 0 (and-r (eqb (8000 * down d) (n * up d * 1)) _ (and-l (le (f32 0x45fa0000) (fin true n d)) (le (fin true n d) (f32 0x48bb8000)) h)))
-  where
-    none : (w : ℕ) → 0 < w → 8000 * w ≡ 0 → ⊥
-    none w W z = omega arith
-lawful (fin false n d) h = le-trans (le-of (8000 * down d) (n * up d * 1) (and-l (le (f32 0x45fa0000) (fin false n d)) (le (fin false n d) (f32 0x48bb8000)) h)) (le-of-eq (mul-one (n * up d)))
+pub rate-above : (rate : Float) → T (lawfulRate rate) → Above rate 8000
+unfolding lawfulRate ofBits
+rate-above rate l =
+    let lowest = f32 0x45fa0000 in
+    let bounds = le lowest rate && le rate (f32 0x48bb8000) in
+    above-of lowest rate 8000 (lit< tt) (lit≤ tt) (and-l (le lowest rate) _ (and-r (finite rate) bounds l)) (and-l (finite rate) bounds l)
 
 five : HasValue (round binary32 false 5 1) false 5 1
 unfolding round
@@ -64,8 +58,8 @@ ratio x v w z h g =
     let b : 8000 * (v * w) ≤ z * v = le-trans (le-of-eq (ap (λ (k : ℕ). 8000 * k) (mul-comm v w) ∙ sym (mul-assoc 8000 w v))) (mul-le-mul-right v g) in
     omega arith
 
-per-rate : (x r : Float) → Upto x 32768 → Rate r → Upto (div32 x r) 5
-unfolding div Rate
+per-rate : (x r : Float) → Upto x 32768 → Above r 8000 → Upto (div32 x r) 5
+unfolding div
 per-rate nan r h g = absurd h
 per-rate (inf s) r h g = absurd h
 per-rate (fin true m e) r h g = absurd h
@@ -87,7 +81,7 @@ per-rate (fin false m e) (fin false n d) h g =
 
 pub floor-upto : (hop : ℕ) (rate : Float) → hop ≤ maxHop → T (lawfulRate rate) → Upto (hopFloorOf hop rate) 5
 unfolding hopFloorOf ofBits
-floor-upto hop rate h r = per-rate (mul32 two (ofInt binary32 (pos hop))) rate (mul-upto binary32 two (ofInt binary32 (pos hop)) 2 16384 (lit≤ tt) (lit≤ tt) (of-upto binary32 hop 16384 (lit≤ tt) h)) (lawful rate r)
+floor-upto hop rate h r = per-rate (mul32 two (ofInt binary32 (pos hop))) rate (mul-upto binary32 two (ofInt binary32 (pos hop)) 2 16384 (lit≤ tt) (lit≤ tt) (of-upto binary32 hop 16384 (lit≤ tt) h)) (rate-above rate r)
 
 -- ---- the stages
 stage-mag : Mag minStage 5
