@@ -1,6 +1,6 @@
 -- Every entry keeps order 5's rule, and none is above the one before it: one computed test each.
 use mathlib.Core.Path.{_≡_, refl, sym, subst, _∙_}
-use mathlib.Core.Bool.{Bool, true, false, _&&_}
+use mathlib.Core.Bool.{Bool, true, _&&_}
 use mathlib.Core.List.{List, [], _∷_}
 use Prim.Native.Nat.{ℕ, zero, suc, _+_, _-_, _*_, _^_, _≤_, _<_}
 use native.Mathlib.Nat.{add-zero, zero-add, add-suc, suc-add, le-refl, le-trans, le-of-lt, le-antisymm, lt-irrefl, lt-of-lt-of-le, mul-le-mul-right, pow-le-pow-left, le-of-suc-le-suc, not-suc-le-zero}
@@ -14,28 +14,16 @@ use Rattle.mask_records.specs.Rule.{Entry}
 use Rattle.mask_records.specs.Decibels.{entries, entryOf}
 
 -- the test f passes at each entry of the list and its place, counted from i
-abbrev both : Bool → Bool → Bool
-both true b = b
-both false b = false
-
-both-left : (a b : Bool) → T (both a b) → T a
-both-left true b t = tt
-both-left false b t = t
-
-both-right : (a b : Bool) → T (both a b) → T b
-both-right true b t = t
-both-right false b t = absurd t
-
 abbrev every : (ℕ → ℕ → Bool) → ℕ → List ℕ → Bool
 every f i [] = true
-every f i (x ∷ xs) = both (f i x) (every f (suc i) xs)
+every f i (x ∷ xs) = f i x && every f (suc i) xs
 
 every-from : (f : ℕ → ℕ → Bool) (xs : List ℕ) (i : ℕ) → T (every f i xs) → (k : ℕ) → k < length xs → T (f (i + k) (getD xs k 0))
 every-from f [] i t k h = absurd (not-suc-le-zero h)
-every-from f (x ∷ xs) i t zero h = subst (λ (m : ℕ). T (f m x)) (sym (add-zero i)) (both-left (f i x) (every f (suc i) xs) t)
+every-from f (x ∷ xs) i t zero h = subst (λ (m : ℕ). T (f m x)) (sym (add-zero i)) (and-l (f i x) (every f (suc i) xs) t)
 every-from f (x ∷ xs) i t (suc k) h =
     subst (λ (m : ℕ). T (f m (getD xs k 0))) (suc-add i k ∙ sym (add-suc i k))
-    (every-from f xs (suc i) (both-right (f i x) (every f (suc i) xs) t) k (le-of-suc-le-suc h))
+    (every-from f xs (suc i) (and-r (f i x) (every f (suc i) xs) t) k (le-of-suc-le-suc h))
 
 every-at : (f : ℕ → ℕ → Bool) (xs : List ℕ) → T (every f 0 xs) → (k : ℕ) → k < length xs → T (f k (getD xs k 0))
 every-at f xs t k h = subst (λ (m : ℕ). T (f m (getD xs k 0))) (zero-add k) (every-from f xs 0 t k h)
@@ -75,20 +63,20 @@ entry-only n e g a b =
 -- ---- it starts at 32,768, ends at 33 and never rises
 abbrev falling : ℕ → List ℕ → Bool
 falling x [] = true
-falling x (y ∷ ys) = both (leb y x) (falling y ys)
+falling x (y ∷ ys) = leb y x && falling y ys
 
 under-first : (x : ℕ) (xs : List ℕ) → T (falling x xs) → (k : ℕ) → k < length xs → getD xs k 0 ≤ x
 under-first x [] t k h = absurd (not-suc-le-zero h)
-under-first x (y ∷ ys) t zero h = leb→le y x (both-left (leb y x) (falling y ys) t)
+under-first x (y ∷ ys) t zero h = leb→le y x (and-l (leb y x) (falling y ys) t)
 under-first x (y ∷ ys) t (suc k) h =
-    le-trans (under-first y ys (both-right (leb y x) (falling y ys) t) k (le-of-suc-le-suc h)) (leb→le y x (both-left (leb y x) (falling y ys) t))
+    le-trans (under-first y ys (and-r (leb y x) (falling y ys) t) k (le-of-suc-le-suc h)) (leb→le y x (and-l (leb y x) (falling y ys) t))
 
 falls : (x : ℕ) (xs : List ℕ) → T (falling x xs) → (i j : ℕ) → i ≤ j → j < suc (length xs) → getD (x ∷ xs) j 0 ≤ getD (x ∷ xs) i 0
 falls x xs t zero zero h l = le-refl x
 falls x xs t zero (suc j) h l = under-first x xs t j (le-of-suc-le-suc l)
 falls x xs t (suc i) zero h l = absurd (not-suc-le-zero h)
 falls x [] t (suc i) (suc j) h l = absurd (not-suc-le-zero (le-of-suc-le-suc l))
-falls x (y ∷ ys) t (suc i) (suc j) h l = falls y ys (both-right (leb y x) (falling y ys) t) i j (le-of-suc-le-suc h) (le-of-suc-le-suc l)
+falls x (y ∷ ys) t (suc i) (suc j) h l = falls y ys (and-r (leb y x) (falling y ys) t) i j (le-of-suc-le-suc h) (le-of-suc-le-suc l)
 
 abbrev ordered : List ℕ → Bool
 ordered [] = true
