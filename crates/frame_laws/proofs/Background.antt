@@ -1,5 +1,5 @@
 -- The background's activity stays from 0 to 1: from a value there, over any accepted seconds.
-use mathlib.Core.Bool.{Bool, true, false, cond}
+use mathlib.Core.Bool.{Bool, true, false}
 use lib.IntN.{pos}
 use lib.Dec.{T}
 use lib.Ieee.{Float, fin, binary32, ofBits, div, neg, lt, le, eq, fits, isNan}
@@ -18,6 +18,7 @@ use Rattle.elementary_laws.proofs.PowerValues.{power-fits}
 use Rattle.frame.specs.Frame.{activityStep, activityMoved, activityOf, accepted}
 use Rattle.floats_laws.proofs.Proportions.{Proportion, nought-unit, rest-unit, risen-unit, fallen-unit}
 use Rattle.floats_laws.proofs.Units.{zero-fits}
+use Rattle.floats_laws.proofs.Bounds.{chosen}
 
 -- TRANSITION_SECONDS
 abbrev transition : Float
@@ -59,8 +60,4 @@ module _ (seconds : Float) (p : T (fits binary32 seconds)) (a : T (accepted seco
 pub activity-unit : (before : Float) (enabled : Bool) (seconds : Float) → T (fits binary32 seconds) → T (accepted seconds) → Proportion before → Proportion (activityOf before enabled seconds)
 unfolding activityOf activityMoved pick ofBits
 activity-unit before true seconds p a u = risen-unit u (step-unit seconds p a)
-activity-unit before false seconds p a u = chosen (lt (activityMoved before false seconds) (f32 0x358637bd)) (fallen-unit u (step-unit seconds p a))
-  where
-    chosen : {x : Float} (b : Bool) → Proportion x → Proportion (cond b nought x)
-    chosen true v = nought-unit
-    chosen false v = v
+activity-unit before false seconds p a u = chosen Proportion (lt (activityMoved before false seconds) (f32 0x358637bd)) nought _ nought-unit (fallen-unit u (step-unit seconds p a))

@@ -3,7 +3,7 @@ use Prim.Native.Nat.{ℕ, zero, suc, _-_, _*_, _^_, _≤_, _<_}
 use native.Mathlib.Nat.{le-trans, le-of-eq, mul-one, zero-mul, mul-pos, mul-le-mul-left, le-of-suc-le-suc, zero-lt-suc}
 use native.Mathlib.Omega.{arith}
 use mathlib.Core.Path.{_≡_, refl, sym, ap, subst}
-use mathlib.Core.Bool.{Bool, true, false, not, cond}
+use mathlib.Core.Bool.{true, false, not, cond}
 use mathlib.Core.List.{List}
 use lib.IntN.{ℤ, pos}
 use lib.Dec.{T, lit≤, lt→ltb, eqb·suc-zero}
@@ -16,7 +16,7 @@ use lib.Ieee.Scale.{finite}
 use lib.ListN.{getD}
 use Rattle.sequences.specs.Pick.{by-case}
 use Rattle.floats.specs.Choose.{max}
-use Rattle.floats_laws.proofs.Bounds.{add-mag}
+use Rattle.floats_laws.proofs.Bounds.{add-mag, chosen}
 use Rattle.floats_laws.proofs.Choosing.{max-fits, max-right}
 use Rattle.floats_laws.proofs.Gap.{quotient-number}
 use Rattle.floats_laws.proofs.Mag.{Mag, le-of, mag-le}
@@ -110,17 +110,17 @@ largest-by n d h =
     (subst (λ (z : Float). T (le (round binary32 false (16777215 * 2 ^ 104 * down d) (suc n * up d * 1)) z)) (own-round binary32 false 16777215 (pos 104) largest-fits)
     (round-mono binary32 (16777215 * 2 ^ 104 * down d) (suc n * up d * 1) (16777215 * 2 ^ 104) 1 (mul-pos (mul-pos (zero-lt-suc n) (up-pos d)) (zero-lt-suc 0)) (zero-lt-suc 0) (by-large (16777215 * 2 ^ 104) (down d) (suc n * up d) h)))
 
-quotient-in : (b z : Float) → T (fits binary32 b) → T (finite b) → T (le nought b) → T (fits binary32 z) → T (le i z) → T (le nought (div binary32 b z)) × T (le (div binary32 b z) largest)
+quotient-in : (b z : Float) → T (fits binary32 b) → T (finite b) → T (le nought b) → T (le i z) → T (le nought (div binary32 b z)) × T (le (div binary32 b z) largest)
 unfolding div lt le eq isNan
-quotient-in b nan p u h q g = absurd g
-quotient-in b (inf true) p u h q g = absurd g
-quotient-in nan (inf false) p u h q g = absurd u
-quotient-in (inf s) (inf false) p u h q g = absurd u
-quotient-in (fin true m e) (inf false) p u h q g = (tt, tt)
-quotient-in (fin false m e) (inf false) p u h q g = (tt, tt)
-quotient-in b (fin true n d) p u h q g = absurd (not-above n d (lt-le nought i (fin true n d) tt g))
-quotient-in b (fin false zero d) p u h q g = absurd (not-itself d (lt-le nought i (fin false zero d) tt g))
-quotient-in b (fin false (suc n) d) p u h q g =
+quotient-in b nan p u h g = absurd g
+quotient-in b (inf true) p u h g = absurd g
+quotient-in nan (inf false) p u h g = absurd u
+quotient-in (inf s) (inf false) p u h g = absurd u
+quotient-in (fin true m e) (inf false) p u h g = (tt, tt)
+quotient-in (fin false m e) (inf false) p u h g = (tt, tt)
+quotient-in b (fin true n d) p u h g = absurd (not-above n d (lt-le nought i (fin true n d) tt g))
+quotient-in b (fin false zero d) p u h g = absurd (not-itself d (lt-le nought i (fin false zero d) tt g))
+quotient-in b (fin false (suc n) d) p u h g =
     let z = fin false (suc n) d in
     let a = lt-le nought i z tt g in
     let m = quotient-number binary32 b z (finite-number binary32 b u) tt a in (
@@ -133,11 +133,7 @@ quotient-in b (fin false (suc n) d) p u h q g =
 -- ---- and it is finite where the bin's width is
 max-finite : (x y : Float) → T (finite x) → T (finite y) → T (finite (max x y))
 unfolding max
-max-finite x y p q = chosen (isNan x) y (cond (lt x y) y x) q (chosen (lt x y) y x q p)
-  where
-    chosen : (b : Bool) (x y : Float) → T (finite x) → T (finite y) → T (finite (cond b x y))
-    chosen true x y p q = p
-    chosen false x y p q = q
+max-finite x y p q = chosen (λ z. T (finite z)) (isNan x) y (cond (lt x y) y x) q (chosen (λ z. T (finite z)) (lt x y) y x q p)
 
 one-or-more : (hz : Float) → T (fits binary32 hz) → T (le i (max hz i))
 unfolding max isNan
@@ -151,7 +147,7 @@ radius-finite width binHz hz w p u q =
     let b = max binHz nought in
     let z = max hz i in
     let bin = div binary32 b z in
-    let c = quotient-in b z (max-fits binary32 binHz nought p (zero-fits binary32 false)) (max-finite binHz nought u tt) (max-right binary32 binHz nought p (zero-fits binary32 false) (finite-number binary32 binHz u) tt) (max-fits binary32 hz i q (one-fits binary32)) (one-or-more hz q) in
+    let c = quotient-in b z (max-fits binary32 binHz nought p (zero-fits binary32 false)) (max-finite binHz nought u tt) (max-right binary32 binHz nought p (zero-fits binary32 false) (finite-number binary32 binHz u) tt) (one-or-more hz q) in
     let n = add-number binary32 i bin tt (between-finite binary32 nought bin largest tt tt (c .0) (c .1)) in
     let low : T (le i (add binary32 i bin)) = subst (λ (x : Float). T (le x (add binary32 i bin))) one-and-nothing (add-rises-right binary32 i nought bin (c .0) (add-number binary32 i nought tt tt) n) in
     let high : T (le (add binary32 i bin) largest) = subst (λ (x : Float). T (le (add binary32 i bin) x)) one-more (add-rises-right binary32 i bin largest (c .1) n (add-number binary32 i largest tt tt)) in

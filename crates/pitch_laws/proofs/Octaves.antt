@@ -34,6 +34,7 @@ use Rattle.pitch.proofs.Logs.{log-of-min, log-of-top}
 use Rattle.floats_laws.proofs.Wholes.{At, at-sum, at-difference, at-whole, at-word}
 use Rattle.pitch_laws.proofs.Counts.{logOf20, logOf4000, logOf4186, Range, octaves-in-range}
 use Rattle.pitch_laws.proofs.Tops.{leastHz, topHz, upper-fits, upper-from, upper-to}
+use Rattle.pitch_laws.proofs.Ramp.{looked}
 
 -- ---- the logarithms of the ends, and the root's
 log-of-20 : log2Of minHz ≡ logOf20
@@ -48,24 +49,16 @@ log-of-4186 : log2Of topHz ≡ logOf4186
 unfolding ofBits ofFields odd
 log-of-4186 = log-of-top
 
-least-above : T (lt nought leastHz)
-unfolding lt ofBits ofFields odd
-least-above = tt
-
-above-zero : (x y : Float) → T (fits binary32 x) → T (fits binary32 y) → T (lt nought x) → T (le x y) → T (lt nought y)
-unfolding fits
-above-zero x y f g h l = lt-le nought x y h l
-
 pub root-log : (x : Float) → T (fits binary32 x) → T (lt nought x) → T (finite x) → Mag (log2Of x) 149
 unfolding neg fits
 root-log x f h k = let w = log2-within x f h k in mag-between binary32 least most (log2Of x) 149 tt (log2-fits x) (w .from) (w .to) (lit≤ tt) (lit≤ tt)
 
 module _ (upper : Float) (f : T (fits binary32 upper)) (h : T (le leastHz upper)) (g : T (le upper topHz)) where
   upper-log-from : T (le logOf4000 (log2Of upper))
-  upper-log-from = subst (λ (z : Float). T (le z (log2Of upper))) log-of-4000 (log2-rises leastHz upper (ofBits-fits binary32 0x457a0000) f least-above h)
+  upper-log-from = subst (λ (z : Float). T (le z (log2Of upper))) log-of-4000 (log2-rises leastHz upper (ofBits-fits binary32 0x457a0000) f (looked .least-above) h)
 
   upper-log-to : T (le (log2Of upper) logOf4186)
-  upper-log-to = subst (λ (z : Float). T (le (log2Of upper) z)) log-of-4186 (log2-rises upper topHz f (ofBits-fits binary32 0x4582d014) (above-zero leastHz upper (ofBits-fits binary32 0x457a0000) f least-above h) g)
+  upper-log-to = subst (λ (z : Float). T (le (log2Of upper) z)) log-of-4186 (log2-rises upper topHz f (ofBits-fits binary32 0x4582d014) (lt-le nought leastHz upper (looked .least-above) h) g)
 
   pub upper-log : Mag (log2Of upper) 13
   unfolding fits neg le lt eq
