@@ -23,7 +23,7 @@ float rk_sqrt(float x);   /* square root, correctly rounded */
  * not overlap the script. Answers 0 with the last accepted frame in `out`: 192 windows of centre,
  * radius and amplitude, then the activity, floats by their bits, the highest byte first; zeros if the
  * script has no frame. Else answers, in this order, 5 (another room), 12 (above 60,000 bytes) or the
- * number of the field that went bad (1, 8, 9, 10, 11), and `out` is as it was. docs/HOSTS.md has a
+ * number that a field went bad with (1, 8, 9, 10, 11), and `out` is as it was. docs/HOSTS.md has a
  * program. */
 uint32_t rk_script(const uint8_t *script, size_t length, uint8_t *out, size_t room);
 

@@ -1,12 +1,13 @@
-// What a birth makes: a new particle, from the settings, the clock and the voice at its birth.
+// A birth, handed on; and what it makes: a new particle, from the settings, the clock and the voice at
+// its birth.
 ghost use mathlib.Core.Path.{_≡_};
 ghost use Rattle.births.specs.Births.{registerBy, widthOf, openingOf, strengthOf, ratioOf, partialsBy, powerBy, newbornOf};
 use pitch::Register;
 use pool::Particle;
 use pool::Retired;
 use settings::Config;
-use settings::Contour;
 use settings::Direction;
+use settings::MAX_PARTIALS;
 use settings::Shape;
 use voices::Voice;
 
@@ -78,7 +79,7 @@ fn ratio(hz: f32, octave: f32, max_hz: f32) -> f32
 fn partials(
     shape: Shape,
     index: u64,
-    weights: [f32; 24],
+    weights: [f32; MAX_PARTIALS],
     limit: usize,
     hz: f32,
     octave: f32,
@@ -107,7 +108,7 @@ pub fn newborn(
     config: Config,
     sample_rate: f64,
     sample: u64,
-    weights: [f32; 24],
+    weights: [f32; MAX_PARTIALS],
 ) -> Particle
     ensures { λ r. ⌜ r ≡ newbornOf index voice config «sample_rate» sample weights ⌝ }
 {

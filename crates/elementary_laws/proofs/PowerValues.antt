@@ -1,4 +1,4 @@
--- Values of the powers that 01 names: 2^x is exact at whole numbers, 10^x stays above 0.00099 from -3 on, and a level of 0 dB or less is a gain from 0 to 1.
+-- Values of the powers: 2^x is exact at whole numbers, 10^x stays above 0.00099 from -3 to 0, and a level of 0 dB or less is a gain from 0 to 1.
 use mathlib.Core.Path.{_≡_, refl, subst, subst⁻¹}
 use mathlib.Core.Bool.{Bool, true, false, cond}
 use Prim.Native.Nat.{ℕ, _<_}

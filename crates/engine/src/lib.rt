@@ -1,4 +1,5 @@
-// The engine's calls, all but `frame`: an engine goes in and comes back.
+// The engine's calls, all but `frame`: a new engine, a reset one, two counts and `advance`; the others are
+// handed on.
 mod counts;
 mod make;
 mod time;

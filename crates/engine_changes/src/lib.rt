@@ -196,7 +196,7 @@ fn sought_phase(cycles: f64) -> f64
     0.0
 }
 
-// The first opportunity after the reference.
+// The opportunity of the phase's cycle, or the next one where the reference has come to it.
 fn sought_opportunity(phase: f64, reference: f64) -> u64
     ensures { λ r. ⌜ r ≡ soughtOpportunity phase reference ⌝ }
 {

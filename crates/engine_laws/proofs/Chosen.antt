@@ -81,7 +81,7 @@ slot-sounding e index own s h =
     either (Sounding (e .sources)) _ _ _ h
     (either (Sounding (e .sources)) _ _ _ (sounding _ (e .sources) (s .slots) (found 256 0 (e .sources) 0)) (sounding _ (e .sources) (s .slots) (found (e .next .«last_source») 0 (e .sources) _)))
 
--- ---- the counters and the choice
+-- ---- the choice, the counters and the places
 pub sound-next : (e : Engine) (n : Next) → Sound e → n .«last_source» ≤ 256 → n .«immediate_index» < 2 ^ 64 → Sound (withNext e n)
 sound-next e n s h i =
     record {

@@ -47,7 +47,7 @@ use Rattle.engine_laws.proofs.Voices.{FormedSource, source-voiced, free
 use Rattle.pitch.specs.Highest.{maxHzOf, rate32}
 
 -- ---- the terms
--- one of three harmonics, or none
+-- three harmonics, each at most 24; 0 for none
 pub record Harmonics (ps : List ℕ) : Type 0 where
   pub three : length ps ≡ 3
   pub each : (k : ℕ) → getD ps k 0 ≤ 24

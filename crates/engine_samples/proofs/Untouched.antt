@@ -1,4 +1,4 @@
--- What a birth, a delivery and a sample leave as it was: a birth touches the places, what comes next and the counters alone.
+-- What a birth and a delivery leave as it was: a birth touches the places, what comes next and the counters alone. And a sample counts one more.
 use Prim.Native.Nat.{ℕ}
 use mathlib.Core.Path.{_≡_, refl, ap, _∙_}
 use mathlib.Core.List.{List}

@@ -15,7 +15,6 @@ use Rattle.settings.specs.declared.Shape.{Shape}
 use Rattle.settings.specs.declared.Shape.the-variants.{Sprinkle, Cloud}
 use Rattle.timing.specs.declared.SprinkleStream.{SprinkleStream}
 use Rattle.timing.specs.Streams.{larger, movedOf, referenceOf}
-use Rattle.state.specs.declared.Clock.{Clock}
 use Rattle.state.specs.declared.Engine.{Engine}
 use Rattle.state.specs.declared.Next.{Next}
 use Rattle.state.specs.State.{withClock, withNext, withStreams, pastStream, referenceNow}

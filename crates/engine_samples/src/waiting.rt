@@ -116,7 +116,7 @@ fn same_bits(a: f64, b: f64) -> bool
     floats::bits64(a) == floats::bits64(b)
 }
 
-// With an offset that stays: one sum a sample.
+// With an offset that stays: two sums a sample, for the reference and for the phase.
 fn wait_at_rest(clock: Clock, starts: Starts, tempo: Tempo, n: u64) -> Waited
     requires { ⌜ glidedOf (clock .«phase_offset») (tempo .phase) (tempo .alpha) ≡ clock .«phase_offset» ⌝ }
     ensures { λ r. ⌜ r ≡ waitedOf starts tempo n clock ⌝ }

@@ -1,7 +1,8 @@
 // Choosing among floats: the larger, the smaller, one held to a range, a size, whether one is
-// finite; and two tests at once. 01 settles what Rust leaves open: of two zeros `max` and `min` give the first.
+// finite; a step, and two tests at once. 01 settles what Rust leaves open: of two zeros `max` and `min` give the first.
 ghost use mathlib.Core.Path.{_≡_};
 ghost use mathlib.Core.Bool.{cond, _&&_};
+ghost use Prim.Native.Nat.{_≤_};
 ghost use lib.Ieee.Scale.{finite};
 ghost use Rattle.floats.specs.Choose.{max, min, clamp, abs};
 
@@ -16,6 +17,13 @@ pub fn pick64(t: bool, a: f64, b: f64) -> f64
     ensures { λ r. ⌜ r ≡ cond t a b ⌝ }
 {
     if t { a } else { b }
+}
+
+// The step of a search by halves: h where t holds, else none.
+pub fn step_if(t: bool, h: usize) -> usize
+    ensures { λ r. ⌜ (r ≡ cond t h 0) × (r ≤ h) ⌝ }
+{
+    if t { h } else { 0 }
 }
 
 // Rust's `max`: a NaN counts as absent.

@@ -27,6 +27,7 @@ pub use choices::max64;
 pub use choices::min32;
 pub use choices::pick32;
 pub use choices::pick64;
+pub use choices::step_if;
 pub use pattern::bits32;
 pub use pattern::bits64;
 pub use pattern::of_bits32;

@@ -1,4 +1,4 @@
--- The whole numbers next to a float of at most 1000 in size, and where it lies beside them (Eighths.antt).
+-- The whole numbers next to a float of at most 1000 in size, for the ceiling 999, and where it lies beside them (Eighths.antt).
 use Prim.Native.Nat.{ℕ, _+_, _-_, _*_, _≤_, _<_}
 use native.Mathlib.Nat.{le-of-mul-le-mul-right, add-mul}
 use native.Mathlib.Omega.{arith}

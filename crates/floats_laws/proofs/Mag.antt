@@ -1,5 +1,5 @@
 -- Bounds by whole numbers, over the format: `Mag x k`, x is finite and at most k in size; `Upto x k`, it has no sign besides; `Least x j`, it is finite, has no sign and is at least 1 / j.
--- A bound that the format holds passes through each operation.
+-- A bound that the format holds passes through rounding, and so through each operation (Bounds.antt).
 use Prim.Native.Nat.{ℕ, zero, suc, _+_, _*_, _^_, _≤_, _<_, zero-le}
 use native.Mathlib.Nat.{le-trans, le-of-eq, le-of-lt, mul-comm, mul-assoc, mul-right-comm, mul-one, zero-mul, mul-zero, mul-pos, mul-le-mul-right, mul-le-mul-left, le-of-mul-le-mul-right, lt-of-lt-of-le, eq-or-lt-of-le, zero-lt-suc}
 use native.Mathlib.Omega.{arith}

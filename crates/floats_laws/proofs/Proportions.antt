@@ -1,4 +1,4 @@
--- Floats from 0 to 1, either zero included: their products, what is left of 1, and what a sum of a part and a part of the rest is.
+-- Floats from 0 to 1, either zero included: their products, what is left of 1, and a part of the way up to 1 or down to 0.
 use Prim.Native.Nat.{ℕ, _+_, _-_, _*_, _/_, _^_, _≤_, _<_}
 use native.Mathlib.Nat.{le-trans, le-of-eq, mul-one, one-mul, mul-comm, mul-assoc, mul-right-comm, add-mul, zero-mul, mul-pos, mul-le-mul-right, le-of-mul-le-mul-right, div-mul-le-self, div-lt-iff-lt-mul, le-of-lt, zero-lt-suc, le-refl}
 use native.Mathlib.Omega.{arith}

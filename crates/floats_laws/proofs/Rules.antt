@@ -1,4 +1,4 @@
--- The rules of order for a caller, over the format and over all floats.
+-- The rules of order for a caller, over the format and over all floats; and what is finite, or no NaN.
 use Prim.Native.Nat.{_-_, _*_, _≤_}
 use native.Mathlib.Omega.{arith}
 use mathlib.Core.Path.{_≡_, sym, _∙_, subst}

@@ -5,6 +5,7 @@ ghost use Prim.Native.Nat.{_+_, _≤_, _<_};
 ghost use Rattle.frame.specs.Windows.{radiusOf, windowBy, windowsOf};
 use crate::places::Shown;
 use pool::MAX_PARTICLES;
+use settings::MAX_PARTIALS;
 use windows::Window;
 
 // Never narrower than a bin.
@@ -43,7 +44,7 @@ fn placed(s: Shown, center: f32, bin_hz: f32, max_hz: f32) -> Window
 // in a function that would be handed it whole; where nothing shows, the window is none already.
 pub fn windows(
     shown: [Shown; MAX_PARTICLES],
-    logs: [f32; 24],
+    logs: [f32; MAX_PARTIALS],
     bin_hz: f32,
     max_hz: f32,
 ) -> [Window; 192]
@@ -56,7 +57,7 @@ pub fn windows(
         let partials = s.partials;
         for w in 0..3 {
             let row = row(partials[w]);
-            if row < 24 {
+            if row < MAX_PARTIALS {
                 let center = s.root_log + logs[row];
                 out[p + MAX_PARTICLES * w] = placed(s, center, bin_hz, max_hz);
             }

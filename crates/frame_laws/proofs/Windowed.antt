@@ -1,4 +1,4 @@
--- THE CLAIM: each window that a particle such as a birth makes shows is finite, with a radius above 0 and an amplitude from 0 to 1; every other window is the empty one.
+-- THE CLAIM: each window that a particle such as a birth makes shows has a finite centre, a radius above 0, finite where the bin's width is, and an amplitude from 0 to 1; every other window is the empty one.
 use Prim.Native.Nat.{ℕ, zero, suc, _≤_, _<_}
 use native.Mathlib.Nat.{zero-lt-suc}
 use mathlib.Core.Path.{_≡_, refl, subst}

@@ -1,9 +1,8 @@
 -- A host's numbers as settings, and what a host sees of a write. Definitions only.
 use Prim.Native.Nat.{ℕ}
-use mathlib.Core.Bool.{Bool, cond}
+use mathlib.Core.Bool.{Bool}
 use mathlib.Core.List.{List}
 use lib.ListN.{length}
-use lib.Dec.{eqb}
 use lib.Ieee.{Float}
 use Rattle.text.specs.Put.{bufferOf}
 use Rattle.refusals.specs.Numbers.{answerOf}
@@ -11,18 +10,7 @@ use Rattle.script.specs.declared.fields.Field.{Field}
 use Rattle.script_writer.specs.Encoded.{encoded}
 use Rattle.script_writer.specs.Written.{writtenOf}
 use Rattle.settings.specs.declared.Config.{Config}
-use Rattle.settings.specs.declared.Shape.{Shape}
-use Rattle.settings.specs.declared.Shape.the-variants.{Sprinkle, Cloud}
-use Rattle.settings.specs.declared.Direction.{Direction}
-use Rattle.settings.specs.declared.Direction.the-variants.{Forward, Reverse, Alternate}
-
--- 0 is Sprinkle, all else Cloud
-unfoldable pub shapeFrom : ℕ → Shape
-shapeFrom n = cond (eqb n 0) Sprinkle Cloud
-
--- 0 is forward, 1 reverse, all else alternate
-unfoldable pub directionFrom : ℕ → Direction
-directionFrom n = cond (eqb n 0) Forward (cond (eqb n 1) Reverse Alternate)
+use Rattle.settings.specs.ByNumber.{shapeFrom, directionFrom}
 
 abbrev pub configFrom : Bool → ℕ → ℕ → Float → Float → Float → Bool → Bool → ℕ → ℕ → Float → Float → Float → Config
 configFrom enabled shape direction rate size phase scheduled sync hop partials rolloff attack release =

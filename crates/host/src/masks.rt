@@ -1,12 +1,13 @@
 // The mask file of a script for a host: 0 and the count behind `at` moved on, or a refusal's number and
 // all as it was.
 ghost use mathlib.Core.Path.{_≡_};
-ghost use Rattle.host.specs.Masks.{numberBy, placeBy, masksAt};
+ghost use Rattle.mask_files.specs.Masks.{filedNumber};
+ghost use Rattle.host.specs.Masks.{placeBy, masksAt};
 use mask_files::Filed;
 
 // The place after the records goes behind `at`; the answer, by its number, comes back.
 fn told(filed: Filed, at: &mut u64) -> u32
-    ensures { λ r. ⌜ (r ≡ numberBy filed) × (now (at .exit) ≡ placeBy (now (at .entry)) filed) ⌝ }
+    ensures { λ r. ⌜ (r ≡ filedNumber filed) × (now (at .exit) ≡ placeBy (now (at .entry)) filed) ⌝ }
 {
     match filed {
         Filed::Upto(after) => {

@@ -3,11 +3,9 @@
 ghost use mathlib.Core.Path.{_≡_};
 ghost use Rattle.script.specs.declared.fields.Field.the-variants as F;
 ghost use Rattle.refusals.specs.Numbers.{answerOf};
-ghost use Rattle.host.specs.Write.{shapeFrom, directionFrom, configFrom, writtenAt};
+ghost use Rattle.host.specs.Write.{configFrom, writtenAt};
 use script_writer::Written;
 use settings::Config;
-use settings::Direction;
-use settings::Shape;
 
 // The count after a write goes behind `at`; the answer, by its number, comes back.
 fn told(written: Written, at: &mut u64) -> u32
@@ -16,30 +14,6 @@ fn told(written: Written, at: &mut u64) -> u32
     *at = written.count as u64;
     let answer = written.answer;
     refusals::answer_number(answer) as u32
-}
-
-// 0 is Sprinkle, all else Cloud.
-fn shape_from(n: u8) -> Shape
-    ensures { λ r. ⌜ r ≡ shapeFrom n ⌝ }
-{
-    if n == 0 {
-        Shape::Sprinkle
-    } else {
-        Shape::Cloud
-    }
-}
-
-// 0 is forward, 1 reverse, all else alternate.
-fn direction_from(n: u8) -> Direction
-    ensures { λ r. ⌜ r ≡ directionFrom n ⌝ }
-{
-    if n == 0 {
-        Direction::Forward
-    } else if n == 1 {
-        Direction::Reverse
-    } else {
-        Direction::Alternate
-    }
 }
 
 #[no_mangle]
@@ -72,8 +46,8 @@ pub extern "C" fn rk_write_configure(
 {
     let config = Config {
         enabled,
-        shape: shape_from(shape),
-        direction: direction_from(direction),
+        shape: settings::shape_from(shape as u32),
+        direction: settings::direction_from(direction as u32),
         rate_hz,
         size_octaves,
         phase,

@@ -1,6 +1,6 @@
 // What a whole script comes to: whether it goes bad, and its last accepted frame.
 ghost use mathlib.Core.Path.{_≡_};
-ghost use Rattle.listing.specs.Ended.{ranTo, endedOf, ranOf};
+ghost use Rattle.listing.specs.Ended.{badOf, ranTo, endedOf, ranOf};
 use crate::lines::Line;
 use crate::turns;
 use crate::turns::Turn;
@@ -22,18 +22,25 @@ fn ran(run: Run, answer: Answer) -> Ended
     Ended { answer, frame }
 }
 
+// The refusal that a script which ends with this line went bad with.
+pub fn bad_of(line: Line) -> Answer
+    ensures { λ r. ⌜ r ≡ badOf line ⌝ }
+{
+    match line {
+        Line::Bad(_, refusal) => Answer::Refused(refusal),
+        Line::Nothing => Answer::Taken,
+        Line::Frame(_, _) => Answer::Taken,
+        Line::Refused(_, _) => Answer::Taken,
+        Line::End(_) => Answer::Taken,
+    }
+}
+
 fn end_of(turn: Turn) -> Ended
     ensures { λ r. ⌜ r ≡ endedOf turn ⌝ }
 {
     let line = turn.line;
     let run = turn.run;
-    match line {
-        Line::Bad(_, refusal) => ran(run, Answer::Refused(refusal)),
-        Line::Nothing => ran(run, Answer::Taken),
-        Line::Frame(_, _) => ran(run, Answer::Taken),
-        Line::Refused(_, _) => ran(run, Answer::Taken),
-        Line::End(_) => ran(run, Answer::Taken),
-    }
+    ran(run, bad_of(line))
 }
 
 // Whether the script goes bad, and the last frame that was accepted.

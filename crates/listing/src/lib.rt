@@ -1,5 +1,5 @@
-// Runs a script: its fields go to an engine one after the other, and what they print goes into a lent
-// buffer.
+// Runs a script: its fields go to an engine one after the other, a turn each, and what they print goes
+// into a lent buffer; and what a script ends with.
 ghost use mathlib.Core.Path.{_≡_};
 ghost use Prim.Native.Nat.{_+_, _-_, _<_, _≤_};
 ghost use lib.ListN.{length, drop};
@@ -15,6 +15,7 @@ mod lines;
 mod turns;
 
 pub use ending::Ended;
+pub use ending::bad_of;
 pub use ending::run_script;
 pub use lines::Line;
 pub use lines::put_line;

@@ -8,6 +8,7 @@ use lib.Ieee.{Float}
 use Rattle.sequences.specs.Pick.{pick}
 use Rattle.text.specs.Put.{splice}
 use Rattle.floats.specs.Names.{f32, div32, asFloat}
+use Rattle.refusals.specs.Numbers.{numberOf}
 use Rattle.refusals.specs.declared.Answer.{Answer}
 use Rattle.refusals.specs.declared.Answer.the-variants as A
 use Rattle.refusals.specs.declared.Refusal.the-variants.{Size, Script, Room}
@@ -62,6 +63,11 @@ logsFor script size = logsOf (div32 (scriptRate script) (asFloat size)) (binsOf 
 -- the records of the script's accepted frames, in order
 abbrev pub recordsOf : List ℕ → ℕ → Float → List Record
 recordsOf script size depth = recordsIn depth (logsFor script size) (turnsOf script)
+
+-- 0 where the records are written
+abbrev pub filedNumber : Filed → ℕ
+filedNumber (Upto after) = 0
+filedNumber (Refused r) = numberOf r
 
 -- what ended the records, and then 13
 abbrev pub placedBy : List ℕ → Answer → List ℕ → ℕ → Filed × List ℕ

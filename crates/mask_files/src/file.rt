@@ -8,7 +8,6 @@ ghost use Rattle.text.specs.Put.{splice};
 ghost use Rattle.refusals.specs.declared.Answer.the-variants as Answer;
 ghost use Rattle.mask_gains.specs.Logs.{lawfulLogs};
 ghost use Rattle.listing.specs.Turns.{turnsOf};
-ghost use Rattle.listing.specs.Ended.{badOf};
 ghost use Rattle.mask_records.specs.Placed.{recordSize};
 ghost use Rattle.mask_files.specs.Records.{filedOf};
 ghost use Rattle.mask_files.specs.Masks.{binsOf, logsFor, filedInto, masksOf};
@@ -18,22 +17,8 @@ use crate::Made;
 use crate::Measured;
 use crate::frames::next_record;
 use crate::frames::start;
-use listing::Line;
 use refusals::Answer;
 use refusals::Refusal;
-
-// How a script ends that ends with a line.
-fn ended(line: Line) -> Answer
-    ensures { λ r. ⌜ r ≡ badOf line ⌝ }
-{
-    match line {
-        Line::Bad(_, refusal) => Answer::Refused(refusal),
-        Line::Nothing => Answer::Taken,
-        Line::Frame(_, _) => Answer::Taken,
-        Line::Refused(_, _) => Answer::Taken,
-        Line::End(_) => Answer::Taken,
-    }
-}
 
 // Each record goes to the start of the same bytes.
 fn measure(
@@ -64,7 +49,7 @@ fn measure(
                 return Measured { bytes, answer };
             }
             Made::Last(line) => {
-                let answer = ended(line);
+                let answer = listing::bad_of(line);
                 return Measured { bytes, answer };
             }
         }
@@ -179,7 +164,7 @@ pub fn masks(script: &[u8], fft_size: usize, depth_db: f32, out: &mut [u8], at: 
     if fft_size < 1 {
         return Filed::Refused(Refusal::Size);
     }
-    if fft_size > 16384 {
+    if fft_size > mask_gains::MAX_FFT_SIZE {
         return Filed::Refused(Refusal::Size);
     }
     if script.len() > script::MAX_SCRIPT_BYTES {

@@ -8,7 +8,7 @@ use lib.Ieee.{Float, nan, lt}
 use lib.Ieee.Scale.{finite}
 use Rattle.sequences.specs.All.{all}
 
--- a log at bin 1 or above is not finite, or is less than the one before it (from bin 2 on)
+-- what refusal 6 lets pass: a log at bin 1 or above is finite, and from bin 2 on not less than the one before it
 unfoldable pub lawfulAt : List Float → ℕ → Bool
 lawfulAt logs i = (ltb i 1 || finite (getD logs i nan)) && (ltb i 2 || not (lt (getD logs i nan) (getD logs (i - 1) nan)))
 

@@ -5,6 +5,7 @@ mod logs;
 mod search;
 mod touch;
 
+pub use bins::MAX_FFT_SIZE;
 pub use bins::bin_table;
 pub use gain::gains;
 pub use gain::level;

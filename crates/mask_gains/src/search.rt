@@ -1,17 +1,9 @@
 // The Rust's `partition_point`, over bins 1 up: where a test that holds up to some bin first fails.
 ghost use mathlib.Core.Path.{_≡_};
-ghost use mathlib.Core.Bool.{cond};
 ghost use Prim.Native.Nat.{_≤_};
 ghost use lib.ListN.{length, getD};
 ghost use lib.Ieee.{nan, lt, le};
 ghost use Rattle.mask_gains.specs.Search.{Falls, First};
-
-// h or nothing: straight code, which compiles to a select.
-fn step_if(t: bool, h: usize) -> usize
-    ensures { λ r. ⌜ (r ≡ cond t h 0) × (r ≤ h) ⌝ }
-{
-    if t { h } else { 0 }
-}
 
 // The first bin whose log is not below x.
 pub fn first_from(logs: &[f32], x: f32) -> usize
@@ -23,10 +15,10 @@ pub fn first_from(logs: &[f32], x: f32) -> usize
     while 1 < size {
         let half = size / 2;
         let mid = base + half;
-        base = base + step_if(logs[mid] < x, half);
+        base = base + floats::step_if(logs[mid] < x, half);
         size = size - half;
     }
-    base + step_if(logs[base] < x, 1)
+    base + floats::step_if(logs[base] < x, 1)
 }
 
 // The first bin whose log is above x.
@@ -39,8 +31,8 @@ pub fn first_past(logs: &[f32], x: f32) -> usize
     while 1 < size {
         let half = size / 2;
         let mid = base + half;
-        base = base + step_if(logs[mid] <= x, half);
+        base = base + floats::step_if(logs[mid] <= x, half);
         size = size - half;
     }
-    base + step_if(logs[base] <= x, 1)
+    base + floats::step_if(logs[base] <= x, 1)
 }

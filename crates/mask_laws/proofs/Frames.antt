@@ -115,7 +115,7 @@ module _ (sample : ℕ) (f : Frame) (depth : Float) (logs scratch : List Float) 
       let r = recordOf sample (entriesOf f depth logs) in
       ap (drop at) (a .out-is ∙ append-assoc (take at out) r (drop (at + length r) out)) ∙ drop-at (take at out) (r ++ drop (at + length r) out) at (length-take-le at out (omega (arith, a .room)))
 
-  -- written and read back: the same sample, count and entries, for every frame; 13 where the lent slice has fewer places
+  -- written and read back: the same sample, count and entries, for every frame, where the lent slice has places enough
   pub written-back : recordWritten sample f depth logs scratch out at .0 ≡ Upto p → (lent : List ℕ) → length logs ≤ length lent
       → recordRead (drop at (recordWritten sample f depth logs scratch out at .2)) lent ≡ (R.Found sample (length logs) (recordSize (length logs)), entriesOf f depth logs ++ drop (length logs) lent)
   written-back e lent l =

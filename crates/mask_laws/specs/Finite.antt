@@ -1,4 +1,4 @@
--- A window of floats that f32 holds, all finite. Definitions only.
+-- A window whose floats are finite, with a radius and an amplitude that f32 holds. Definitions only.
 use lib.Dec.{T}
 use lib.Ieee.{binary32, fits}
 use lib.Ieee.Scale.{finite}

@@ -1,4 +1,4 @@
--- What the record of open bins answers, by what its placing answered; and a frame's record by its level.
+-- What the record of open bins answers, by what its placing answered.
 use Prim.Native.Nat.{ℕ, _+_}
 use mathlib.Core.Path.{_≡_, refl, sym, ap, _∙_}
 use mathlib.Core.Bool.{Bool, true, false, false≢true}

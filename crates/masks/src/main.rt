@@ -160,7 +160,7 @@ fn sized(
     if size < 1 {
         return;
     }
-    if size > 16384 {
+    if size > mask_gains::MAX_FFT_SIZE as u64 {
         return;
     }
     let n = (size / 2 + 1) as usize;

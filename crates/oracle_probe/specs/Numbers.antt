@@ -2,28 +2,18 @@
 use Prim.Native.Nat.{ℕ, _+_, _*_, _%_, _^_}
 use mathlib.Core.Bool.{Bool, true, false}
 use mathlib.Core.List.{List}
-use lib.Dec.{eqb}
 use lib.Ieee.{Float, binary32, ofBits, lt}
 use lib.ListN.{getD}
 use Rattle.sequences.specs.Pick.{pick}
 use Rattle.sequences.specs.Table.{table}
 use Rattle.draws.specs.Draws.{mixOf}
 use Rattle.settings.specs.declared.Config.{Config}
-use Rattle.settings.specs.declared.Shape.{Shape}
-use Rattle.settings.specs.declared.Shape.the-variants.{Sprinkle, Cloud}
-use Rattle.settings.specs.declared.Direction.{Direction}
-use Rattle.settings.specs.declared.Direction.the-variants.{Forward, Reverse, Alternate}
+use Rattle.settings.specs.ByNumber.{shapeFrom, directionFrom}
 use Rattle.timing.specs.declared.SprinkleStream.{SprinkleStream}
 use Rattle.timing.specs.Streams.{movedOf}
 
-unfoldable pub shapeFrom : ℕ → Shape
-shapeFrom n = pick (eqb n 0) Sprinkle Cloud
-
-unfoldable pub directionFrom : ℕ → Direction
-directionFrom n = pick (eqb n 0) Forward (pick (eqb n 1) Reverse Alternate)
-
-unfoldable pub configFrom : ℕ → ℕ → Float → Float → Float → ℕ → ℕ → Float → Float → Float → Config
-configFrom kind way rate size turn hop count rolloff attack release =
+unfoldable pub probedConfig : ℕ → ℕ → Float → Float → Float → ℕ → ℕ → Float → Float → Float → Config
+probedConfig kind way rate size turn hop count rolloff attack release =
     record {
       enabled = true;
       shape = shapeFrom kind;

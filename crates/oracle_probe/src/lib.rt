@@ -11,7 +11,8 @@ ghost use lib.Ieee.{binary32, binary64, ofBits, toBits, ofInt, toUnsigned, rem};
 ghost use lib.IntN.{pos};
 ghost use Prim.Native.Nat.{_<_};
 ghost use mathlib.Core.Path.{_≡_};
-ghost use Rattle.oracle_probe.specs.Numbers.{shapeFrom, directionFrom, configFrom, sampledOf, weightFrom, weightsFrom, packedOf};
+ghost use Rattle.settings.specs.ByNumber.{directionFrom};
+ghost use Rattle.oracle_probe.specs.Numbers.{probedConfig, sampledOf, weightFrom, weightsFrom, packedOf};
 ghost use Rattle.pitch.specs.Register.{heightOf, registerStrength, probabilityOf};
 ghost use Rattle.pitch.specs.Cloud.{frequencyOf};
 ghost use Rattle.pitch.specs.Octave.{registerOf};
@@ -20,8 +21,6 @@ ghost use Rattle.settings.specs.Mending.{attackOf, releaseMsOf, partialsHeld, r
 ghost use Rattle.settings.specs.Envelope.{contourOf};
 ghost use Rattle.timing.specs.Streams.{preparedStream, alignedOf, referenceOf};
 use settings::Config;
-use settings::Direction;
-use settings::Shape;
 use timing::SprinkleStream;
 
 mod counts;
@@ -263,28 +262,6 @@ pub extern "C" fn rk_probe_sprinkle_key(lane: u64, index: u64) -> u64
     draws::sprinkle_key(lane as usize, index)
 }
 
-fn shape_of(n: u32) -> Shape
-    ensures { λ r. ⌜ r ≡ shapeFrom n ⌝ }
-{
-    if n == 0 {
-        Shape::Sprinkle
-    } else {
-        Shape::Cloud
-    }
-}
-
-fn direction_of(n: u32) -> Direction
-    ensures { λ r. ⌜ r ≡ directionFrom n ⌝ }
-{
-    if n == 0 {
-        return Direction::Forward;
-    }
-    if n == 1 {
-        return Direction::Reverse;
-    }
-    Direction::Alternate
-}
-
 fn config_of(
     kind: u32,
     way: u32,
@@ -297,10 +274,10 @@ fn config_of(
     attack: f32,
     release: f32,
 ) -> Config
-    ensures { λ r. ⌜ r ≡ configFrom kind way rate size turn hop count rolloff attack release ⌝ }
+    ensures { λ r. ⌜ r ≡ probedConfig kind way rate size turn hop count rolloff attack release ⌝ }
 {
-    let shape = shape_of(kind);
-    let direction = direction_of(way);
+    let shape = settings::shape_from(kind);
+    let direction = settings::direction_from(way);
     Config {
         enabled: true,
         shape,
@@ -388,7 +365,7 @@ pub extern "C" fn rk_probe_lifetime(
     index: u64,
     sample_rate: f32,
 ) -> f32
-    ensures { λ r. ⌜ r ≡ contourOf (mendedOf (configFrom kind way rate size (f32 0) hop 1 (f32 0x40c00000) attack release)) index «sample_rate» .lifetime ⌝ }
+    ensures { λ r. ⌜ r ≡ contourOf (mendedOf (probedConfig kind way rate size (f32 0) hop 1 (f32 0x40c00000) attack release)) index «sample_rate» .lifetime ⌝ }
 {
     let config = config_of(kind, way, rate, size, 0.0, hop, 1, 6.0, attack, release);
     let contour = settings::envelope(settings::mended(config), index, sample_rate);
@@ -407,7 +384,7 @@ pub extern "C" fn rk_probe_attack(
     index: u64,
     sample_rate: f32,
 ) -> f32
-    ensures { λ r. ⌜ r ≡ contourOf (mendedOf (configFrom kind way rate size (f32 0) hop 1 (f32 0x40c00000) attack release)) index «sample_rate» .attack ⌝ }
+    ensures { λ r. ⌜ r ≡ contourOf (mendedOf (probedConfig kind way rate size (f32 0) hop 1 (f32 0x40c00000) attack release)) index «sample_rate» .attack ⌝ }
 {
     let config = config_of(kind, way, rate, size, 0.0, hop, 1, 6.0, attack, release);
     let contour = settings::envelope(settings::mended(config), index, sample_rate);
@@ -524,7 +501,7 @@ pub extern "C" fn rk_probe_free_cloud_frequency(index: u64, max_hz: f32) -> f32
 pub extern "C" fn rk_probe_octave(index: u64, root_hz: f32, max_hz: f32, way: u32) -> f32
     ensures { λ r. ⌜ r ≡ registerOf index «root_hz» «max_hz» (directionFrom way) .octave ⌝ }
 {
-    let register = pitch::sprinkle_register(index, root_hz, max_hz, direction_of(way));
+    let register = pitch::sprinkle_register(index, root_hz, max_hz, settings::direction_from(way));
     register.octave
 }
 
@@ -532,7 +509,7 @@ pub extern "C" fn rk_probe_octave(index: u64, root_hz: f32, max_hz: f32, way: u3
 pub extern "C" fn rk_probe_strength(index: u64, root_hz: f32, max_hz: f32, way: u32) -> f32
     ensures { λ r. ⌜ r ≡ registerOf index «root_hz» «max_hz» (directionFrom way) .strength ⌝ }
 {
-    let register = pitch::sprinkle_register(index, root_hz, max_hz, direction_of(way));
+    let register = pitch::sprinkle_register(index, root_hz, max_hz, settings::direction_from(way));
     register.strength
 }
 

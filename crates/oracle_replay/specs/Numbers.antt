@@ -1,19 +1,16 @@
 -- The parts of the state as numbers, in the order of `oracle state`: floats by their bits with one NaN, flags and choices as 0, 1, 2, and "none" as all ones. Definitions only.
 use Prim.Native.Nat.{ℕ}
-use mathlib.Core.Bool.{Bool}
 use mathlib.Core.List.{List, [], _∷_}
 use lib.Dec.{eqb}
 use lib.Ieee.{Float, binary32, binary64, toBits}
 use lib.ListN.{getD}
 use Rattle.sequences.specs.Pick.{pick}
+use Rattle.big_endian.specs.Bytes.{flagOf}
 use Rattle.pool.specs.declared.Particle.{Particle}
 use Rattle.pool.specs.declared.Retired.{Retired}
 use Rattle.pool.specs.declared.Retired.the-variants.{Not, At}
 use Rattle.settings.specs.declared.Config.{Config}
-use Rattle.settings.specs.declared.Shape.{Shape}
-use Rattle.settings.specs.declared.Shape.the-variants.{Sprinkle, Cloud}
-use Rattle.settings.specs.declared.Direction.{Direction}
-use Rattle.settings.specs.declared.Direction.the-variants.{Forward, Reverse, Alternate}
+use Rattle.settings.specs.ByNumber.{shapeNumber, directionNumber}
 use Rattle.sources.specs.declared.Source.{Source}
 use Rattle.sources.specs.Sources.{noSlot}
 use Rattle.state.specs.declared.Engine.{Engine}
@@ -23,24 +20,12 @@ use Rattle.timing.specs.declared.SprinkleStream.{SprinkleStream}
 abbrev pub noneWord : ℕ
 noneWord = 18446744073709551615
 
-unfoldable pub flagWord : Bool → ℕ
-flagWord b = pick b 1 0
-
 unfoldable pub slotOf : ℕ → ℕ
 slotOf n = pick (eqb n noSlot) noneWord n
 
 abbrev pub retiredWord : Retired → ℕ
 retiredWord Not = noneWord
 retiredWord (At sample) = sample
-
-abbrev pub shapeWord : Shape → ℕ
-shapeWord Sprinkle = 0
-shapeWord Cloud = 1
-
-abbrev pub directionWord : Direction → ℕ
-directionWord Forward = 0
-directionWord Reverse = 1
-directionWord Alternate = 2
 
 abbrev bits32 : Float → ℕ
 bits32 x = toBits binary32 x
@@ -56,7 +41,7 @@ countsOf e =
     ∷ e .next .opportunity
     ∷ e .next .«immediate_index»
     ∷ slotOf (e .next .«last_source»)
-    ∷ flagWord (e .next .«note_input_present»)
+    ∷ flagOf (e .next .«note_input_present»)
     ∷ e .tally .attempts
     ∷ bits32 (e .activity)
     ∷ e .tally .births
@@ -67,14 +52,14 @@ countsOf e =
 
 abbrev pub configWords : Config → List ℕ
 configWords c =
-    flagWord (c .enabled)
-    ∷ shapeWord (c .shape)
-    ∷ directionWord (c .direction)
+    flagOf (c .enabled)
+    ∷ shapeNumber (c .shape)
+    ∷ directionNumber (c .direction)
     ∷ bits32 (c .«rate_hz»)
     ∷ bits32 (c .«size_octaves»)
     ∷ bits32 (c .phase)
-    ∷ flagWord (c .scheduled)
-    ∷ flagWord (c .sync)
+    ∷ flagOf (c .scheduled)
+    ∷ flagOf (c .sync)
     ∷ c .«hop_samples»
     ∷ c .partials
     ∷ bits32 (c .«partial_rolloff_db»)
@@ -90,14 +75,14 @@ abbrev pub harmonicWords : Float → Float → Float → List ℕ
 harmonicWords log first now = bits32 log ∷ bits32 first ∷ bits32 now ∷ []
 
 abbrev pub streamWords : SprinkleStream → List ℕ
-streamWords s = s .index ∷ bits64 (s .next) ∷ flagWord (s .emit) ∷ []
+streamWords s = s .index ∷ bits64 (s .next) ∷ flagOf (s .emit) ∷ []
 
 abbrev pub sourceWords : Source → List ℕ
-sourceWords s = bits32 (s .«frequency_hz») ∷ bits32 (s .strength) ∷ flagWord (s .eligible) ∷ []
+sourceWords s = bits32 (s .«frequency_hz») ∷ bits32 (s .strength) ∷ flagOf (s .eligible) ∷ []
 
 abbrev pub particleOf : Particle → List ℕ
 particleOf p =
-    flagWord (p .active)
+    flagOf (p .active)
     ∷ slotOf (p .source)
     ∷ p .birth
     ∷ bits64 (p .lifetime)

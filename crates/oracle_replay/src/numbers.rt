@@ -2,7 +2,9 @@
 // all ones.
 ghost use mathlib.Core.Path.{_≡_};
 ghost use lib.Ieee.{binary32, toBits};
-ghost use Rattle.oracle_replay.specs.Numbers.{flagWord, slotOf, retiredWord, shapeWord, directionWord, countsOf, configWords, preparedWords, harmonicWords, streamWords, sourceWords, particleOf};
+ghost use Rattle.big_endian.specs.Bytes.{flagOf};
+ghost use Rattle.settings.specs.ByNumber.{shapeNumber, directionNumber};
+ghost use Rattle.oracle_replay.specs.Numbers.{slotOf, retiredWord, countsOf, configWords, preparedWords, harmonicWords, streamWords, sourceWords, particleOf};
 use pool::Particle;
 use pool::Retired;
 use settings::Config;
@@ -17,9 +19,9 @@ use timing::SprinkleStream;
 const NONE: u64 = 18446744073709551615;
 
 fn flag(b: bool) -> u64
-    ensures { λ r. ⌜ r ≡ flagWord b ⌝ }
+    ensures { λ r. ⌜ r ≡ flagOf b ⌝ }
 {
-    if b { 1 } else { 0 }
+    big_endian::flag(b) as u64
 }
 
 fn slot(n: usize) -> u64
@@ -41,22 +43,15 @@ fn retired(r: Retired) -> u64
 }
 
 fn shape(s: Shape) -> u64
-    ensures { λ r. ⌜ r ≡ shapeWord s ⌝ }
+    ensures { λ r. ⌜ r ≡ shapeNumber s ⌝ }
 {
-    match s {
-        Shape::Sprinkle => 0,
-        Shape::Cloud => 1,
-    }
+    settings::shape_number(s) as u64
 }
 
 fn direction(d: Direction) -> u64
-    ensures { λ r. ⌜ r ≡ directionWord d ⌝ }
+    ensures { λ r. ⌜ r ≡ directionNumber d ⌝ }
 {
-    match d {
-        Direction::Forward => 0,
-        Direction::Reverse => 1,
-        Direction::Alternate => 2,
-    }
+    settings::direction_number(d) as u64
 }
 
 fn single(x: f32) -> u64

@@ -7,6 +7,7 @@ use pool::Particle;
 use sources::MAX_SOURCES;
 use sources::Source;
 use state::Engine;
+use timing::SPRINKLE_STREAMS;
 use timing::SprinkleStream;
 
 fn put_word(out: &mut [u8], at: usize, n: u64) -> usize
@@ -43,11 +44,11 @@ fn put_harmonics(
     at
 }
 
-fn put_streams(out: &mut [u8], at: usize, streams: [SprinkleStream; 3]) -> usize
+fn put_streams(out: &mut [u8], at: usize, streams: [SprinkleStream; SPRINKLE_STREAMS]) -> usize
     ensures { λ r. ⌜ Put (now (out .entry)) (now (out .exit)) at r (streamsBytes streams) ⌝ }
 {
     let mut at = at;
-    for i in 0..3 {
+    for i in 0..SPRINKLE_STREAMS {
         let stream = streams[i];
         let words = crate::numbers::stream(stream);
         at = put_words(out, at, &words);

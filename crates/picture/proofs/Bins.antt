@@ -1,4 +1,4 @@
--- What the rows come to, each by one computed test: the widths, and that every row has a bin.
+-- What the rows come to, each by one computed test: the widths, and that every row has a bin; and a sum from some entry on.
 use mathlib.Core.Path.{_≡_, ap}
 use mathlib.Core.Bool.{Bool, _&&_}
 use mathlib.Core.List.{List, [], _∷_}

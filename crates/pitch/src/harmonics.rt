@@ -3,6 +3,7 @@
 ghost use mathlib.Core.Path.{_≡_};
 ghost use Prim.Native.Nat.{_≤_};
 ghost use Rattle.pitch.specs.Partials.{partialCount, keptOf, allowedOf, sumOf, harmonicOf, withoutOf, partialsDrawn, partialsOf};
+use settings::MAX_PARTIALS;
 
 // A draw below the first gives one harmonic, below the second two, else three.
 pub const PARTIAL_COUNT_CUMULATIVE: [f32; 2] = [0.80, 0.97];
@@ -32,21 +33,21 @@ fn kept(i: usize, weight: f32, limit: usize, max_ratio: f32) -> f32
     floats::pick32(harmonic >= max_ratio, 0.0, weight)
 }
 
-fn allowed(weights: [f32; 24], limit: usize, max_ratio: f32) -> [f32; 24]
+fn allowed(weights: [f32; MAX_PARTIALS], limit: usize, max_ratio: f32) -> [f32; MAX_PARTIALS]
     ensures { λ r. ⌜ r ≡ allowedOf limit «max_ratio» weights ⌝ }
 {
-    let mut out = [0.0; 24];
-    for i in 0..24 {
+    let mut out = [0.0; MAX_PARTIALS];
+    for i in 0..MAX_PARTIALS {
         out[i] = kept(i, weights[i], limit, max_ratio);
     }
     out
 }
 
-fn sum(weights: [f32; 24]) -> f32
+fn sum(weights: [f32; MAX_PARTIALS]) -> f32
     ensures { λ r. ⌜ r ≡ sumOf weights ⌝ }
 {
     let mut sum = -0.0;
-    for i in 0..24 {
+    for i in 0..MAX_PARTIALS {
         sum = sum + weights[i];
     }
     sum
@@ -54,14 +55,14 @@ fn sum(weights: [f32; 24]) -> f32
 
 // The harmonic, from 1, whose weight is above what is left of the target, or the last whose weight
 // is positive; 0 where none is.
-fn harmonic(weights: [f32; 24], target: f32) -> u8
+fn harmonic(weights: [f32; MAX_PARTIALS], target: f32) -> u8
     ensures { λ r. ⌜ r ≡ harmonicOf weights target ⌝ }
 {
     let mut left = target;
     let mut chosen: u8 = 0;
     let mut i: usize = 0;
     loop {
-        if i == 24 {
+        if i == MAX_PARTIALS {
             break chosen;
         }
         let weight = weights[i];
@@ -78,7 +79,7 @@ fn harmonic(weights: [f32; 24], target: f32) -> u8
 }
 
 // The weights without the harmonic that was drawn.
-fn without(weights: [f32; 24], harmonic: u8) -> [f32; 24]
+fn without(weights: [f32; MAX_PARTIALS], harmonic: u8) -> [f32; MAX_PARTIALS]
     ensures { λ r. ⌜ r ≡ withoutOf weights harmonic ⌝ }
 {
     let mut out = weights;
@@ -90,7 +91,7 @@ fn without(weights: [f32; 24], harmonic: u8) -> [f32; 24]
     out
 }
 
-fn drawn(index: u64, weights: [f32; 24], count: usize) -> [u8; 3]
+fn drawn(index: u64, weights: [f32; MAX_PARTIALS], count: usize) -> [u8; 3]
     requires { ⌜ count ≤ 3 ⌝ }
     ensures { λ r. ⌜ r ≡ partialsDrawn index weights count ⌝ }
 {
@@ -110,7 +111,12 @@ fn drawn(index: u64, weights: [f32; 24], count: usize) -> [u8; 3]
     selected
 }
 
-pub fn select_partials(index: u64, weights: [f32; 24], limit: usize, max_ratio: f32) -> [u8; 3]
+pub fn select_partials(
+    index: u64,
+    weights: [f32; MAX_PARTIALS],
+    limit: usize,
+    max_ratio: f32,
+) -> [u8; 3]
     ensures { λ r. ⌜ r ≡ partialsOf index weights limit «max_ratio» ⌝ }
 {
     let count = count(draws::random(index, draws::PARTIAL_COUNT));

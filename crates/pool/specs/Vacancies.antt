@@ -1,4 +1,4 @@
--- Which places are held, line by line as the Rust has it. A place is free where its particle is not active. Definitions only.
+-- Which places are held, how many, and the lowest free one, line by line as the Rust has it. A place is free where its particle is not active. Definitions only.
 use Prim.Native.Nat.{ℕ}
 use mathlib.Core.Bool.{Bool, not}
 use mathlib.Core.List.{List}

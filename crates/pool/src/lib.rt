@@ -1,5 +1,5 @@
-// The places of the particles: what holds one, and what retirement and a new pitch do to those that
-// hold one.
+// The places of the particles: what holds one, what retirement and a new pitch do to those that hold
+// one, and the lowest free one.
 ghost use mathlib.Core.Path.{_≡_};
 ghost use mathlib.Core.List.{map};
 ghost use Rattle.pool.specs.Pool.{freeParticle, firstRetirement, retiredOf, retireOne, retireBoundOne, retuneOne};

@@ -80,7 +80,7 @@ joined i h =
       bend-small = ltb→lt (powerBend i) 8388608 (and-r (a && b && c && d) e t);
     }
 
--- ---- the curve never falls: in a cell by its form, all-at cell to cell by the test
+-- ---- the curve never falls: in a cell by its form, from cell to cell by the test
 curve-rises : (t s b : ℕ) {p r : ℕ} → p ≤ r → curve t s b p ≤ curve t s b r
 curve-rises t s b {p} {r} h = sum-rises t (mul-le-mul h (sum-rises s (div-rises (pow-pos 26) (mul-le-mul-left b h))))
 

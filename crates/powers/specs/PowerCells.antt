@@ -24,7 +24,7 @@ powerStarts =
     8832331321595618838 ∷ 8928509103859867100 ∷ 9025734193507008925 ∷ 9124017994966720698 ∷
     9223372036854775808 ∷ []
 
--- with r from 0 to 2^26 across a cell, start + r * (slope + bend * r / 2^26) also passes through the cell's middle and its end
+-- with r from 0 to 2^26 across a cell, start + r * (slope + bend * r / 2^26) also passes through the cell's middle and its end, but for the rounding of its coefficients, 2^26 at most
 unfoldable pub powerSlopes : List ℕ
 powerSlopes =
     744253813 ∷ 752358206 ∷ 760550850 ∷ 768832705 ∷ 777204745 ∷ 785667949 ∷ 794223313 ∷ 802871837 ∷

@@ -41,7 +41,7 @@ fn normal(k: u64, m: u64) -> f32
     f32::from_bits((k * 8388608 + (m + 274877906944) / 549755813888) as u32)
 }
 
-// The answer where no such field is: the infinity, or a subnormal number.
+// The answer where no such field is: the infinity, a subnormal number or 0.
 fn extreme(n: u64, m: u64) -> f32
     requires { ⌜ (0x41380001 ≤ n → 0x413800ff ≤ n) × (4611686018427387904 ≤ m) × (m < 9223372036854775808) ⌝ }
     ensures { λ r. ⌜ r ≡ ofBits binary32 (placed32 n m) ⌝ }

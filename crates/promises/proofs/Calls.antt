@@ -2,7 +2,7 @@
 use Prim.Native.Nat.{ℕ}
 use mathlib.Core.Path.{_≡_, refl, sym, ap, _∙_, subst}
 use mathlib.Core.Logic.{_↔_}
-use mathlib.Core.Bool.{false, true≢false}
+use mathlib.Core.Bool.{true≢false}
 use mathlib.Core.List.{List, [], _∷_}
 use Rattle.sequences.specs.Pick.{picked}
 use Rattle.pool.specs.declared.Particle.{Particle}
@@ -14,12 +14,9 @@ use Rattle.engine_laws.proofs.Performed.{calls-are-acts}
 use Rattle.promises.specs.Life.{place, Held, Life, lifeOf, Fate, living, freed, story}
 use Rattle.promises.specs.Runs.{run}
 use Rattle.promises.specs.Demand3.{DueFrame, Fixed, NoneDue}
+use Rattle.promises.proofs.Lives.{free-free}
 use Rattle.promises.proofs.Stories.{keeps, fixed, fixed-on, frees}
 use Rattle.promises.proofs.Quiet.{only-frames}
-
-free-not-held : freeParticle .active ≡ false
-unfolding freeParticle
-free-not-held = refl
 
 -- ---- one call
 module _ (e : Engine) (c : Call) (i : ℕ) (h : Held e i) where
@@ -49,7 +46,7 @@ module _ (e : Engine) (c : Call) (i : ℕ) (h : Held e i) where
   freed-due q = go (story e (actsOf e c) life) refl
     where
       go : (f : Fate) → story e (actsOf e c) life ≡ f → DueFrame e c life
-      go (living l) s = absurd (true≢false (sym (goes-on l s .0) ∙ ap (λ (p : Particle). p .active) q ∙ free-not-held))
+      go (living l) s = absurd (true≢false (sym (goes-on l s .0) ∙ ap (λ (p : Particle). p .active) q ∙ free-free))
       go freed s = only-frames e c life s
 
   pub freed-by : (place (applied e c) i ≡ freeParticle) ↔ DueFrame e c life

@@ -37,7 +37,7 @@ use Rattle.mask_records.specs.Found as records-in
 use Rattle.mask_files.specs.declared.Filed.{Filed}
 use Rattle.mask_files.specs.declared.Filed.the-variants as Files
 use Rattle.mask_files.specs.Records.{filedOf}
-use Rattle.mask_files.specs.Masks.{logsFor, placedBy, masksOf}
+use Rattle.mask_files.specs.Masks.{logsFor, filedNumber, placedBy, masksOf}
 use Rattle.script.specs.declared.fields.Field.{Field}
 use Rattle.script.specs.declared.Read.the-variants as R
 use Rattle.big_endian.specs.Numbers.{be16}
@@ -52,7 +52,7 @@ use Rattle.promises.proofs.Answers.{done-leaves, new-leaves, checked, f
 use Rattle.promises.proofs.Triggers as fires
 use Rattle.promises.proofs.Stops.{stops}
 use Rattle.promises.proofs.Writing.{listed-by, unlisted-by, written-by, unwritten-by}
-use Rattle.promises.specs.Tests.{Row, firstOf, NoneHolds, Given, readNumber, badRecord, recordNumber, foundNumber, filedNumber}
+use Rattle.promises.specs.Tests.{Row, firstOf, NoneHolds, Given, readNumber, badRecord, recordNumber, foundNumber}
 use Rattle.promises.specs.Stops.{stopRows}
 use Rattle.promises.specs.Demand1.{Demand1}
 

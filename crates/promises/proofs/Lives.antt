@@ -189,7 +189,7 @@ pub record Newly (e : Engine) (a : Act) (i : ℕ) : Type 0 where
 place-map : (f : Particle → Particle) → f freeParticle ≡ freeParticle → (ps : List Particle) (i : ℕ) → getD (map f ps) i freeParticle ≡ f (getD ps i freeParticle)
 place-map f fe ps i = subst (λ (d : Particle). getD (map f ps) i d ≡ f (getD ps i freeParticle)) fe (List·getD-map f ps i freeParticle)
 
-free-free : freeParticle .active ≡ false
+pub free-free : freeParticle .active ≡ false
 unfolding freeParticle
 free-free = refl
 

@@ -32,7 +32,7 @@ use Rattle.mask_records.specs.Entries.{attenuationAt}
 use Rattle.mask_records.specs.Written as records
 use Rattle.mask_records.specs.Found as records-in
 use Rattle.mask_files.specs.Records.{filedOf}
-use Rattle.mask_files.specs.Masks.{logsFor, masksOf}
+use Rattle.mask_files.specs.Masks.{logsFor, filedNumber, masksOf}
 use Rattle.big_endian.specs.Numbers.{be16}
 use Rattle.script.specs.Table.{kindOf, lengthOf, lawful}
 use Rattle.script.specs.Field.{misplaced, unknown, readOf}
@@ -45,7 +45,7 @@ use Rattle.script_writer.specs.Written.{writtenOf}
 use Rattle.listing.specs.Listed.{roomFor, listedOf, leftIn}
 use Rattle.listing.specs.Turns.{turnsOf}
 use Rattle.entry.specs.Entry.{entryAnswer, entryBytes}
-use Rattle.promises.specs.Tests.{Row, firstOf, Given, badRate, badSlot, pastLimit, badSeconds, badRecord, testsOf, replyNumber, readNumber, listedNumber, recordNumber, foundNumber, filedNumber, Kept}
+use Rattle.promises.specs.Tests.{Row, firstOf, Given, badRate, badSlot, pastLimit, badSeconds, badRecord, testsOf, replyNumber, readNumber, listedNumber, recordNumber, foundNumber, Kept}
 use Rattle.promises.specs.Triggers.{Places, answered, Settled}
 use Rattle.promises.specs.Stops.{stopRows, Stops}
 

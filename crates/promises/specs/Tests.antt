@@ -18,8 +18,6 @@ use Rattle.mask_records.specs.declared.Written.{Written}
 use Rattle.mask_records.specs.declared.Written.the-variants as W
 use Rattle.mask_records.specs.declared.Read as reader
 use Rattle.mask_records.specs.declared.Read.the-variants as M
-use Rattle.mask_files.specs.declared.Filed.{Filed}
-use Rattle.mask_files.specs.declared.Filed.the-variants as Files
 use Rattle.big_endian.specs.Numbers.{be16}
 use Rattle.script.specs.declared.fields.Field.{Field}
 use Rattle.script.specs.declared.fields.Field.the-variants as F
@@ -113,10 +111,6 @@ abbrev pub foundNumber : reader.Read → ℕ
 foundNumber M.End = 0
 foundNumber (M.Found v n k) = 0
 foundNumber (M.Refused r) = numberOf r
-
-abbrev pub filedNumber : Filed → ℕ
-filedNumber (Files.Upto p) = 0
-filedNumber (Files.Refused r) = numberOf r
 
 -- a refusal leaves the engine as it was
 abbrev pub Kept : Engine → Done → Type 0

@@ -22,7 +22,7 @@ numberOf Logs = 6
 numberOf Seconds = 7
 -- script: an unknown tag
 numberOf Tag = 8
--- script: a header, a length or a value cut short
+-- script: the header cut, a length that is not the tag's, or the value cut
 numberOf Cut = 9
 -- script: a flag, a shape or a direction out of range
 numberOf Value = 10

@@ -35,7 +35,7 @@ script-three s =
     (λ y. rw y (let d = onward-reads 1 0 s in omega (arith, three-each d, within d)))
     (λ y. rw y (omega arith))
 
--- a script that is read to its end is its fields' own bytes
+-- a script that is read to its end: its reading, and that the reader stops behind its last byte
 module _ (s : List ℕ) (v : readingOf s .verdict ≡ ended) where
   pub script-reads : Reads 1 0 s (readingOf s)
   unfolding readingOf

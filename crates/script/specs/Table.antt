@@ -1,14 +1,10 @@
 -- 01's table of the event script: for each tag the length of its value, when the value is lawful, and the field that it is. Definitions only.
 use Prim.Native.Nat.{ℕ}
-use mathlib.Core.Bool.{Bool, true, cond, _&&_}
+use mathlib.Core.Bool.{Bool, true, _&&_}
 use mathlib.Core.List.{List, [], _∷_}
 use lib.ListN.{getD}
-use lib.Dec.{eqb}
 use Rattle.settings.specs.declared.Config.{Config}
-use Rattle.settings.specs.declared.Shape.{Shape}
-use Rattle.settings.specs.declared.Shape.the-variants.{Sprinkle, Cloud}
-use Rattle.settings.specs.declared.Direction.{Direction}
-use Rattle.settings.specs.declared.Direction.the-variants.{Forward, Reverse, Alternate}
+use Rattle.settings.specs.ByNumber.{shapeFrom, directionFrom}
 use Rattle.big_endian.specs.Numbers.{be16, be32, be64, f32At, f64At, flagAt, upTo}
 use Rattle.script.specs.declared.fields.Field.{Field}
 use Rattle.script.specs.declared.fields.Field.the-variants as F
@@ -23,20 +19,12 @@ kinds =
 abbrev pub kindOf : ℕ → Kind
 kindOf t = getD kinds t K.Unknown
 
--- shape 0 is Sprinkle, 1 Cloud
-abbrev pub shapeAt : List ℕ → ℕ → Shape
-shapeAt v i = cond (eqb (getD v i 0) 0) Sprinkle Cloud
-
--- direction 0 forward, 1 reverse, 2 alternate
-abbrev pub directionAt : List ℕ → ℕ → Direction
-directionAt v i = cond (eqb (getD v i 0) 0) Forward (cond (eqb (getD v i 0) 1) Reverse Alternate)
-
 abbrev pub configOf : List ℕ → Config
 configOf v =
     record {
       enabled = flagAt v 0;
-      shape = shapeAt v 1;
-      direction = directionAt v 2;
+      shape = shapeFrom (getD v 1 0);
+      direction = directionFrom (getD v 2 0);
       «rate_hz» = f32At v 3;
       «size_octaves» = f32At v 7;
       phase = f32At v 11;

@@ -1,45 +1,20 @@
 // The value of a configure field: when it is lawful, and what it says.
 ghost use mathlib.Core.Path.{_≡_};
-ghost use Rattle.script.specs.Table.{shapeAt, directionAt, configOf, lawfulConfig};
+ghost use Rattle.script.specs.Table.{configOf, lawfulConfig};
 use big_endian::be32_at;
 use big_endian::byte;
 use big_endian::f32_at;
 use big_endian::flag_at;
 use big_endian::up_to;
 use settings::Config;
-use settings::Direction;
-use settings::Shape;
-
-fn shape_at(v: &[u8], i: usize) -> Shape
-    ensures { λ r. ⌜ r ≡ shapeAt (now (v .entry)) i ⌝ }
-{
-    if byte(v, i) == 0 {
-        Shape::Sprinkle
-    } else {
-        Shape::Cloud
-    }
-}
-
-fn direction_at(v: &[u8], i: usize) -> Direction
-    ensures { λ r. ⌜ r ≡ directionAt (now (v .entry)) i ⌝ }
-{
-    let b = byte(v, i);
-    if b == 0 {
-        Direction::Forward
-    } else if b == 1 {
-        Direction::Reverse
-    } else {
-        Direction::Alternate
-    }
-}
 
 pub fn config_of(v: &[u8]) -> Config
     ensures { λ r. ⌜ r ≡ configOf (now (v .entry)) ⌝ }
 {
     Config {
         enabled: flag_at(v, 0),
-        shape: shape_at(v, 1),
-        direction: direction_at(v, 2),
+        shape: settings::shape_from(byte(v, 1) as u32),
+        direction: settings::direction_from(byte(v, 2) as u32),
         rate_hz: f32_at(v, 3),
         size_octaves: f32_at(v, 7),
         phase: f32_at(v, 11),

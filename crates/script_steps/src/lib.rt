@@ -1,4 +1,4 @@
-// The run of a script, and what a field comes to.
+// The run of a script, what a field comes to, and what the line of an accepted frame says.
 ghost use mathlib.Core.Path.{_≡_};
 ghost use Rattle.script_steps.specs.Steps as Steps;
 ghost use Rattle.script_steps.specs.Replies.{replyOf, outcomeReply};

@@ -128,7 +128,7 @@ fn digest(bytes: &[u8]) -> u64 {
 
 fn frame_differs(line: &[u8; 84], script: &mut [u8]) -> bool {
     let n = read_script(script, vectors::second(line) as usize);
-    let mut frame = [0u8; 2308];
+    let mut frame = [0u8; entry::FRAME_BYTES];
     let answer = entry::last_frame(&script[..n], &mut frame);
     if refusals::answer_number(answer) != vectors::third(line) {
         return true;
@@ -164,7 +164,8 @@ fn replay(script: &mut [u8], want: &mut [u8], out: &mut [u8]) {
     vectors::say(cases, wrong);
 }
 
-// A byte more than a script may have, the longest stored listing, and room for the longest of all.
+// A byte more than a script may have, more than the longest stored listing, and room for the longest of
+// all.
 fn lend(script: &mut [u8; 60001], want: &mut [u8; 65536], out: &mut [u8; 4080204]) {
     replay(script, want, out)
 }

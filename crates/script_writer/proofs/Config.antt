@@ -5,7 +5,7 @@ use mathlib.Core.List.{List, [], _∷_}
 use lib.ListN.{getD}
 use Rattle.settings.specs.declared.Config.{Config}
 use Rattle.big_endian.specs.Bytes.{bytes32, single, flagOf}
-use Rattle.script_writer.specs.Kinds.{shapeOf, directionOf}
+use Rattle.settings.specs.ByNumber.{shapeNumber, directionNumber}
 use Rattle.script_writer.specs.Encoded.{held32, configBytes}
 
 -- the four bytes of w, in front of others
@@ -13,7 +13,7 @@ abbrev four : List ℕ → List ℕ → List ℕ
 four w l = getD w 0 0 ∷ getD w 1 0 ∷ getD w 2 0 ∷ getD w 3 0 ∷ l
 
 pub config-spelled : (c : Config) {enabled shape direction scheduled sync : ℕ} {rate size phase hop partials rolloff attack release : List ℕ}
-    → enabled ≡ flagOf (c .enabled) → shape ≡ shapeOf (c .shape) → direction ≡ directionOf (c .direction)
+    → enabled ≡ flagOf (c .enabled) → shape ≡ shapeNumber (c .shape) → direction ≡ directionNumber (c .direction)
     → rate ≡ single (c .«rate_hz») → size ≡ single (c .«size_octaves») → phase ≡ single (c .phase)
     → scheduled ≡ flagOf (c .scheduled) → sync ≡ flagOf (c .sync)
     → hop ≡ bytes32 (held32 (c .«hop_samples»)) → partials ≡ bytes32 (held32 (c .partials))

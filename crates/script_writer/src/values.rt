@@ -2,7 +2,6 @@
 ghost use mathlib.Core.Path.{_≡_};
 ghost use mathlib.Core.List.{_++_};
 ghost use Rattle.big_endian.specs.Bytes.{bytes16, bytes64, single, flag};
-ghost use Rattle.script_writer.specs.Kinds.{shapeOf, directionOf};
 ghost use Rattle.script_writer.specs.Encoded.{held32, configBytes};
 use big_endian::bytes16;
 use big_endian::bytes32;
@@ -10,27 +9,8 @@ use big_endian::bytes64;
 use big_endian::flag;
 use big_endian::single;
 use settings::Config;
-use settings::Direction;
-use settings::Shape;
-
-fn shape_byte(s: Shape) -> u8
-    ensures { λ r. ⌜ r ≡ shapeOf s ⌝ }
-{
-    match s {
-        Shape::Sprinkle => 0,
-        Shape::Cloud => 1,
-    }
-}
-
-fn direction_byte(d: Direction) -> u8
-    ensures { λ r. ⌜ r ≡ directionOf d ⌝ }
-{
-    match d {
-        Direction::Forward => 0,
-        Direction::Reverse => 1,
-        Direction::Alternate => 2,
-    }
-}
+use settings::direction_number;
+use settings::shape_number;
 
 // A number of the form: what it cannot hold is written as the greatest that it can.
 fn held(n: usize) -> u32
@@ -54,8 +34,8 @@ pub fn config_value(c: Config) -> [u8; 37]
     let release = single(c.release_ms);
     [
         flag(c.enabled),
-        shape_byte(shape),
-        direction_byte(direction),
+        shape_number(shape),
+        direction_number(direction),
         rate[0],
         rate[1],
         rate[2],

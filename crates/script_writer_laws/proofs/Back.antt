@@ -1,7 +1,7 @@
 -- One event that was written is read back, whatever stands behind it.
 use Prim.Native.Nat.{ℕ, _+_, _*_, _/_, _%_, _≤_}
 use mathlib.Core.Path.{_≡_, refl, ap, _∙_}
-use mathlib.Core.Bool.{Bool, true, false, cond}
+use mathlib.Core.Bool.{Bool, true, false}
 use mathlib.Core.List.{List, _++_}
 use native.Mathlib.Omega.{arith}
 use lib.Dec.{eqb, leb}
@@ -23,7 +23,7 @@ use Rattle.script.specs.Field.{readOf, misplaced, unknown}
 use Rattle.script.specs.declared.Read.the-variants as R
 use Rattle.script.proofs.Whole.{Whole, taken-whole}
 use Rattle.big_endian.specs.Bytes.{flagOf}
-use Rattle.script_writer.specs.Kinds.{shapeOf, directionOf}
+use Rattle.settings.specs.ByNumber.{shapeNumber, directionNumber, shapeFrom, directionFrom}
 use Rattle.script_writer.specs.Encoded.{encoded, configBytes, held32}
 use Rattle.script_writer_laws.specs.Events.{Writable, WritableConfig, isRate}
 
@@ -59,20 +59,20 @@ flag-lawful : (b : Bool) → leb (flagOf b) 1 ≡ true
 flag-lawful true = refl
 flag-lawful false = refl
 
-shape-back : (s : Shape) → cond (eqb (shapeOf s) 0) Sprinkle Cloud ≡ s
+shape-back : (s : Shape) → shapeFrom (shapeNumber s) ≡ s
 shape-back Sprinkle = refl
 shape-back Cloud = refl
 
-shape-lawful : (s : Shape) → leb (shapeOf s) 1 ≡ true
+shape-lawful : (s : Shape) → leb (shapeNumber s) 1 ≡ true
 shape-lawful Sprinkle = refl
 shape-lawful Cloud = refl
 
-direction-back : (d : Direction) → cond (eqb (directionOf d) 0) Forward (cond (eqb (directionOf d) 1) Reverse Alternate) ≡ d
+direction-back : (d : Direction) → directionFrom (directionNumber d) ≡ d
 direction-back Forward = refl
 direction-back Reverse = refl
 direction-back Alternate = refl
 
-direction-lawful : (d : Direction) → leb (directionOf d) 2 ≡ true
+direction-lawful : (d : Direction) → leb (directionNumber d) 2 ≡ true
 direction-lawful Forward = refl
 direction-lawful Reverse = refl
 direction-lawful Alternate = refl

@@ -13,7 +13,7 @@ use borrow.Author.Tests.{le-leb, leb-true, eqb-true, eqb-false}
 use Rattle.sequences.specs.Every.{Every, every-getD}
 use Rattle.sequences.specs.Pick.{by-case}
 use Rattle.big_endian.specs.Numbers.{be16, be32, be64, f32At, f64At, flagAt, upTo}
-use Rattle.script.specs.Table.{shapeAt, directionAt}
+use Rattle.settings.specs.ByNumber.{shapeFrom, directionFrom}
 use Rattle.big_endian.specs.Bytes.{bytes16, bytes32, bytes64, single, double, flag}
 use Rattle.script_writer.specs.Kinds.{shapeByte, directionByte}
 use Rattle.script_writer.specs.Encoded.{held32}
@@ -102,7 +102,7 @@ module _ (v : List ℕ) (bytes : Every Byte v) where
       (λ y. rw y (let z = eqb-false (getD v i 0) 1 y in let m = leb-true (getD v i 0) 1 l in omega arith)))
       ∙ byte-again i h
 
-  pub shape-again : (i : ℕ) → i < length v → upTo v i 1 ≡ true → shapeByte (shapeAt v i) ≡ take 1 (drop i v)
+  pub shape-again : (i : ℕ) → i < length v → upTo v i 1 ≡ true → shapeByte (shapeFrom (getD v i 0)) ≡ take 1 (drop i v)
   shape-again i h l =
       ap (λ (b : ℕ). b ∷ [])
       (by-case (eqb (getD v i 0) 0)
@@ -110,7 +110,7 @@ module _ (v : List ℕ) (bytes : Every Byte v) where
       (λ y. rw y (let z = eqb-false (getD v i 0) 0 y in let m = leb-true (getD v i 0) 1 l in omega arith)))
       ∙ byte-again i h
 
-  pub direction-again : (i : ℕ) → i < length v → upTo v i 2 ≡ true → directionByte (directionAt v i) ≡ take 1 (drop i v)
+  pub direction-again : (i : ℕ) → i < length v → upTo v i 2 ≡ true → directionByte (directionFrom (getD v i 0)) ≡ take 1 (drop i v)
   direction-again i h l =
       ap (λ (b : ℕ). b ∷ [])
       (by-case (eqb (getD v i 0) 0)

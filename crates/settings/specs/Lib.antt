@@ -1,3 +1,4 @@
 pub mod Settings
 pub mod Envelope
 pub mod Mending
+pub mod ByNumber

@@ -1,14 +1,21 @@
-// The settings: what may be asked for, its default, and the hop that is refused.
+// The settings: what may be asked for, its default, the hop and the sample rates that are refused; their
+// mending, and the envelope of a birth; shapes and directions by their numbers.
 ghost use mathlib.Core.Path.{_≡_};
 ghost use Rattle.settings.specs.Settings.{isSprinkle, defaultConfig, checkedOf, lawfulRate};
 use refusals::Answer;
 use refusals::Refusal;
 
+mod by_number;
 mod envelopes;
 mod mending;
 
+pub use by_number::direction_from;
+pub use by_number::direction_number;
+pub use by_number::shape_from;
+pub use by_number::shape_number;
 pub use envelopes::Contour;
 pub use envelopes::envelope;
+pub use mending::MAX_PARTIALS;
 pub use mending::mended;
 
 // Added by 01: a larger hop is refused.

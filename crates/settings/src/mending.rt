@@ -38,7 +38,7 @@ fn partials(n: usize) -> usize
     n
 }
 
-// What comes back is in range. A hop is left as it is: `settings::checked` speaks of it.
+// What comes back is in range. A hop is left as it is: `checked` speaks of it.
 pub fn mended(config: Config) -> Config
     ensures { λ r. ⌜ r ≡ mendedOf config ⌝ }
 {

@@ -1,4 +1,4 @@
--- A stage x of at most 5 and one r of at least 1 / 512, as f32s: their sum is at most 10, and x is a part of it that stays clear of 0 and of 1.
+-- Two stages x and r from 1 / 500 to 5, as f32s: their sum lies from 1 / 512 to 10, and x is a part of it that stays clear of 0 and of 1.
 -- The sum is at least k / 1024, where k is the next but one whole number above 1024 x: that is a float, so rounding does not pass it.
 use Prim.Native.Nat.{ℕ, _+_, _*_, _/_, _%_, _^_, _≤_, _<_}
 use native.Mathlib.Nat.{le-trans, le-of-eq, lt-of-le-of-lt, mul-comm, mul-assoc, mul-right-comm, mul-pos, zero-mul, add-mul, mul-le-mul-right, mul-le-mul, le-of-mul-le-mul-right, mul-mul-mul-comm, div-add-mod', mod-lt}

@@ -1,4 +1,4 @@
--- The counters of births and the hash of decisions, line by line as the Rust's `birth`. Definitions only.
+-- The counters of births and of places held, and the hash of decisions, line by line as the Rust's `birth`. Definitions only.
 use Prim.Native.Nat.{ℕ, _+_, _*_}
 use lib.Bits.{bitXor}
 use lib.ListN.{getD}

@@ -6,6 +6,7 @@ use pool::Particle;
 use refusals::Answer;
 use refusals::Refusal;
 use settings::Config;
+use settings::MAX_PARTIALS;
 use sources::MAX_SOURCES;
 use sources::Source;
 use timing::SPRINKLE_STREAMS;
@@ -24,8 +25,8 @@ pub use tallies::drop_one;
 pub struct Prepared {
     pub sample_rate: f64,
     pub phase_alpha: f64,
-    pub partial_logs: [f32; 24],
-    pub default_partial_weights: [f32; 24],
+    pub partial_logs: [f32; MAX_PARTIALS],
+    pub default_partial_weights: [f32; MAX_PARTIALS],
 }
 
 pub struct Clock {
@@ -35,7 +36,7 @@ pub struct Clock {
 }
 
 // What the next births take: the Cloud's opportunity, a trigger's index, the slot that the last birth
-// chose (`NO_SOURCE` for none), and whether notes are held.
+// chose (`NO_SOURCE` for none), and whether note input is present.
 pub struct Next {
     pub opportunity: u64,
     pub immediate_index: u64,
@@ -59,7 +60,7 @@ pub struct Engine {
     pub clock: Clock,
     pub next: Next,
     pub streams: [SprinkleStream; SPRINKLE_STREAMS],
-    pub partial_weights: [f32; 24],
+    pub partial_weights: [f32; MAX_PARTIALS],
     pub tally: Tally,
     pub config: Config,
     pub activity: f32,

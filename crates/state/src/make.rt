@@ -6,23 +6,24 @@ use crate::Engine;
 use crate::Next;
 use crate::Prepared;
 use crate::Tally;
+use settings::MAX_PARTIALS;
 
-fn partial_logs() -> [f32; 24]
+fn partial_logs() -> [f32; MAX_PARTIALS]
     ensures { λ r. ⌜ r ≡ partialLogs ⌝ }
 {
-    let mut out = [0.0; 24];
-    for i in 0..24 {
+    let mut out = [0.0; MAX_PARTIALS];
+    for i in 0..MAX_PARTIALS {
         out[i] = elementary::log2(floats::u64_to_f32(i as u64 + 1));
     }
     out
 }
 
 // How likely each harmonic is, at so many decibels an octave.
-pub fn weights(partial_logs: [f32; 24], rolloff_db: f32) -> [f32; 24]
+pub fn weights(partial_logs: [f32; MAX_PARTIALS], rolloff_db: f32) -> [f32; MAX_PARTIALS]
     ensures { λ r. ⌜ r ≡ weightsOf «partial_logs» «rolloff_db» ⌝ }
 {
-    let mut out = [0.0; 24];
-    for i in 0..24 {
+    let mut out = [0.0; MAX_PARTIALS];
+    for i in 0..MAX_PARTIALS {
         out[i] = elementary::db_to_gain(-rolloff_db * partial_logs[i]);
     }
     out

@@ -1,4 +1,5 @@
-// The tally of births: one more that was dropped, or one more that was born and the hash of decisions.
+// The tally of births: one more that was dropped; or one more that was born and holds a place, and the
+// hash of decisions.
 ghost use mathlib.Core.Path.{_≡_};
 ghost use Rattle.state.specs.Tallies.{droppedOne, particleWord, hashOf, bornOne};
 use crate::Tally;

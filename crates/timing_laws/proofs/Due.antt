@@ -1,5 +1,5 @@
 -- What is due is not far ahead: where a stream's next start, or the Cloud's reference, is not after a reference of at most 2^34 in size, its index is near it; so are the group
--- and the opportunity that are under way there. An index never passes 2^35 + 2 by itself, however many samples go by.
+-- and the opportunity that are under way there. So an index never passes 2^35 + 2 (Lanes.antt).
 use Prim.Native.Nat.{ℕ, _+_, _-_, _*_, _/_, _%_, _^_, _≤_, _<_, zero-le, min}
 use native.Mathlib.Nat.{le-trans, le-of-lt, le-of-suc-le-suc, add-mul, div-le-self, div-lt-iff-lt-mul, mod-le}
 use native.Mathlib.Omega.{arith}

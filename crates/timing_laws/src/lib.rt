@@ -1,1 +1,2 @@
-// Laws of a stream: its next start is finite, and how its index moves. No code.
+// Laws of the streams and of the Cloud's reference: they are finite, how an index moves, and how far it can
+// be. No code.

@@ -1,4 +1,4 @@
--- The taper, and how far a window opens a place, line by line as the Rust. Definitions only.
+-- The empty window and frame, the taper, and how far a window opens a place, line by line as the Rust. Definitions only.
 use mathlib.Core.Bool.{cond}
 use mathlib.Core.List.{List}
 use lib.ListN.{replicate}

@@ -1,4 +1,5 @@
-// What a frame shows: 192 windows over the logarithm of frequency, and how far each opens a place there.
+// What a frame shows: 192 windows over the logarithm of frequency, how far each opens a place there,
+// and what a frame leaves of a frequency.
 ghost use mathlib.Core.Path.{_≡_};
 ghost use Rattle.windows.specs.Opening.{cubic, taperOf, opennessOf, emptyWindow, emptyFrame};
 

@@ -1,4 +1,4 @@
--- `narrowed` meets its contract: `Narrow` says for each range of the exponent what is rounded, and `Pack` what its pattern is.
+-- `narrowed` meets its contract: `Narrow` says for each range of the exponent which pattern the rounded value has.
 use borrow.Author.Needs.{needs}
 use Prim.Native.Nat.{ℕ, _+_, _-_, _*_, _/_, _%_, _^_, min}
 use native.Mathlib.Omega.{arith}

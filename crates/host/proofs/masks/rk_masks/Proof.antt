@@ -3,7 +3,8 @@ use Prim.Native.Nat.{ℕ}
 use mathlib.Core.Path.{ap, _∙_}
 use mathlib.Core.List.{List}
 use Rattle.mask_files.specs.declared.Filed.{Filed}
-use Rattle.host.specs.Masks.{numberBy, placeBy}
+use Rattle.mask_files.specs.Masks.{filedNumber}
+use Rattle.host.specs.Masks.{placeBy}
 use borrow.Author.Needs.{needs}
 use Rattle.host.proofs.masks.rk_masks.Statement.{statement}
 use Rattle.host.proofs.masks.rk_masks.Tie as tie
@@ -22,7 +23,7 @@ returns c =
     let a = c .before .before .before .before .before .before .before .before .before .args in
     let e = c .before .before .before .before .masks .ensures in
     let t = c .told .ensures in
-    let number = t .0 ∙ ap (λ (x : Filed × List ℕ). numberBy (x .0)) e in
+    let number = t .0 ∙ ap (λ (x : Filed × List ℕ). filedNumber (x .0)) e in
     let place = t .1 ∙ ap (λ (x : Filed × List ℕ). placeBy (a .at .now) (x .0)) e in
     λ i. (number i, e i .1, place i)
 

@@ -94,8 +94,8 @@ returns c =
 enum-known-made-3 : tie.Need-enum-known-made-3 Inv-loop μ-loop
 enum-known-made-3 c = search needs
 
-ended-requires : tie.Need-ended-requires Inv-loop μ-loop
-ended-requires c κs = search needs
+bad-of-requires : tie.Need-bad-of-requires Inv-loop μ-loop
+bad-of-requires c κs = search needs
 
 same-length-3 : tie.Need-same-length-3 Inv-loop μ-loop
 same-length-3 c = search needs
@@ -114,7 +114,7 @@ returns-2 c =
     let bins : Bins (a .logs .now) (l .scratch) = record { some = pre .1 .0 .0; few = pre .1 .0 .1; lawful = pre .1 .0 .2; places = l .inv .0 ∙ pre .1 .0 .3 } in
     let tells = told (a .depth-db) (a .logs .now) s top (l .walk) (l .inv .2 .stands) (l .scratch) bins (l .lent) 0 (n .result) (n .last .1 .1 .1 .1 .0) (n .last .1 .1 .1 .1 .1 .0) (n .ensures) in
     let w = subst (Tells (a .depth-db) (a .logs .now) s (l .walk) (n .result .walk) (l .lent) (n .last .1 .1 .1 .1 .1 .0) 0) (c .before .before .made3 .given .1) tells in
-    measuring-ends (a .depth-db) (a .logs .now) s (l .walk) (l .bytes) (l .inv .2) _ _ (c .ended .ensures) (w .1)
+    measuring-ends (a .depth-db) (a .logs .now) s (l .walk) (l .bytes) (l .inv .2) _ _ (c .bad-of .ensures) (w .1)
 
 pub measure-spec : {M : Type 1} → statement M
 measure-spec =
@@ -134,7 +134,7 @@ measure-spec =
     same-length-2
     returns
     enum-known-made-3
-    ended-requires
+    bad-of-requires
     same-length-3
     same-length-4
     returns-2)

@@ -39,11 +39,11 @@ single-requires-6 c κs = search needs
 flag-requires : tie.Need-flag-requires
 flag-requires c κs = search needs
 
-shape-byte-requires : tie.Need-shape-byte-requires
-shape-byte-requires c κs = search needs
+shape-number-requires : tie.Need-shape-number-requires
+shape-number-requires c κs = search needs
 
-direction-byte-requires : tie.Need-direction-byte-requires
-direction-byte-requires c κs = search needs
+direction-number-requires : tie.Need-direction-number-requires
+direction-number-requires c κs = search needs
 
 array-read-t19 : tie.Need-array-read-t19
 array-read-t19 c = search needs
@@ -152,8 +152,8 @@ returns c =
     config-spelled
     (c .before .before .before .before .before .before .before .before .before .before .before .before .before .before .before .args .c)
     (c .before .before .before .before .flag .ensures)
-    (c .before .before .before .shape-byte .ensures)
-    (c .before .before .direction-byte .ensures)
+    (c .before .before .before .shape-number .ensures)
+    (c .before .before .direction-number .ensures)
     (c .before .before .before .before .before .before .before .before .before .before .before .before .before .before .single .ensures)
     (c .before .before .before .before .before .before .before .before .before .before .before .before .before .single2 .ensures)
     (c .before .before .before .before .before .before .before .before .before .before .before .before .single3 .ensures)
@@ -180,8 +180,8 @@ config-value-spec =
     single-requires-5
     single-requires-6
     flag-requires
-    shape-byte-requires
-    direction-byte-requires
+    shape-number-requires
+    direction-number-requires
     array-read-t19
     array-read-t22
     array-read-t25

@@ -1,7 +1,7 @@
--- `ended` meets its contract: a case for each line.
+-- `bad_of` meets its contract: a case for each line.
 use borrow.Author.Needs.{needs}
-use Rattle.mask_files.proofs.file.ended.Statement.{statement}
-use Rattle.mask_files.proofs.file.ended.Tie as tie
+use Rattle.listing.proofs.ending.bad_of.Statement.{statement}
+use Rattle.listing.proofs.ending.bad_of.Tie as tie
 
 enum-known-line : tie.Need-enum-known-line
 enum-known-line c = search needs
@@ -33,8 +33,8 @@ returns-4 c = search needs
 returns-5 : tie.Need-returns-5
 returns-5 c = search needs
 
-pub ended-spec : {M : Type 1} → statement M
-ended-spec =
+pub bad-of-spec : {M : Type 1} → statement M
+bad-of-spec =
     tie.close
     (tie.spec
     enum-known-line
