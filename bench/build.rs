@@ -1,5 +1,6 @@
 //! Links the proved functions: `bench/run` puts the archives into the folder that it names here. Where
-//! the original Rust is at hand, its mask is made a module, with no change but to its first lines.
+//! the original Rust is at hand, its `particles.rs` is made a module, with no change but to its first lines
+//! and the test modules at its end.
 use std::path::Path;
 use std::{env, fs};
 

@@ -1,6 +1,6 @@
 //! The tables of docs/FUNCTIONS.md.
 
-/// log2 at the last place of each cell, and half of 2^-24, in units of 2^-62.
+/// Each cell's parabola of log2 at its last place, in units of 2^-62.
 #[rustfmt::skip]
 pub const LOG_TOPS: [u64; 64] = [
     103152374005076112, 204730858882238466, 304781732841826263, 403350323771278801,

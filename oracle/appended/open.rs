@@ -59,7 +59,7 @@ pub mod open {
     ) -> [u8; 3] {
         super::select_partials(index, weights, limit, max_ratio)
     }
-    /// Index, next start and whether it emits, of a lane's stream set to `index` and prepared.
+    /// The next start and whether it emits, of a lane's stream set to `index` and prepared.
     pub fn prepared_stream(lane: usize, index: u64, sync: bool) -> (f64, bool) {
         let mut stream = SprinkleStream::new(lane, sync);
         stream.index = index;

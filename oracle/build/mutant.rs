@@ -1,4 +1,5 @@
-//! A mutant: one textual edit of an original, taken by its name from the list `mutants.list`.
+//! A mutant: one textual edit of an original, or of the oracle's own reading, taken by its name from the
+//! list `mutants.list`.
 use crate::edit::{count, stop};
 
 pub struct Mutant {

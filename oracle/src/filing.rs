@@ -84,8 +84,8 @@ fn compare_bad(files: &mut Answered) {
 const FEW: u64 = 10_000;
 const MANY: u64 = 100_000;
 
-/// The mask files of generated scripts, of every kind in turn: with room, exact and a byte short, at a
-/// place past the end, with a depth that is no number, at a size that is refused, and of a script above
+/// The mask files of generated scripts, of every kind in turn: with room, exact and a byte short, at any
+/// place, with a depth that is no number, at a size that is refused, and of a script above
 /// its limit.
 fn compare_files(count: u64, base: u64, limit: u64, files: &mut Answered) {
     for n in 0..count {

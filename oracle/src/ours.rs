@@ -8,7 +8,7 @@ use crate::linked as functions;
 
 pub use functions::{exp, exp2, exp64, log2, pow10, pow8, sqrt};
 
-/// Says which functions these are, for the last line of a run.
+/// Whether these are the port's; else the comparison leaves them out and says so.
 pub const LINKED: bool = cfg!(linked);
 
 pub trait Functions: Sized {

@@ -4,7 +4,7 @@ use crate::late;
 use crate::original::Engine;
 use crate::runner::{run, Answer};
 
-/// All numbers but 5 and 6, which no script gives: lent lengths, and the logs of a mask.
+/// All of 01's numbers but 5 and 6, which no script gives: lent lengths, and the logs of a mask.
 pub const NUMBERS: [u32; 10] = [1, 2, 3, 4, 7, 8, 9, 10, 11, 12];
 
 const SEEDS: u64 = 10;

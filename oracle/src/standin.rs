@@ -1,5 +1,5 @@
 //! STAND-IN, used only where the archive `libhost.a` is absent: std's functions behind our names.
-//! A run with these compares nothing of the port; its last line says so.
+//! A run with these does not compare the functions: a line NOT COMPARED says so, and the run fails.
 
 pub fn log2(x: f32) -> f32 {
     x.log2()
