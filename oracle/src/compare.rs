@@ -5,7 +5,8 @@ use crate::draws::mixed;
 use crate::part::Part;
 use crate::probes::{Probe, PROBED, PROBES};
 use crate::{
-    elementary, filing, late, lent, marked, masks, ours, reached, recording, scripts, writing,
+    elementary, filing, late, lent, marked, masks, ours, rates, reached, recording, scripts,
+    writing,
 };
 use std::io::{self, Write};
 
@@ -93,6 +94,8 @@ pub fn compare(count: u64, base: u64, limit: u64, out: &mut impl Write) -> io::R
         numbers,
         &reached::missing(base),
     )?;
+    let (checks, failing) = rates::failing(base);
+    sum.own("order 1's rates", checks, &failing)?;
     let (checks, failing) = recording::failing();
     sum.own("order 5's table and tenths", checks, &failing)?;
     if ours::LINKED {
@@ -124,6 +127,7 @@ pub fn compare(count: u64, base: u64, limit: u64, out: &mut impl Write) -> io::R
     recording::compare(base, &mut sum)?;
     filing::compare(count, base, limit, &mut sum)?;
     writing::compare(base, &mut sum)?;
+    sum.counted(&rates::compare(base))?;
     scripts::compare(count, base, limit, &mut sum)?;
     let (cases, differ) = (sum.cases, sum.differ);
     let left_out = match sum.absent {

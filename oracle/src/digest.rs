@@ -6,7 +6,7 @@ use crate::gen::{script, KINDS};
 use crate::original::Engine;
 use crate::records;
 use crate::runner::{run, Answer};
-use crate::{calls, late, listing, masks, recorded};
+use crate::{calls, late, listing, masks, rates, recorded};
 use std::io::{self, Write};
 
 #[derive(Default)]
@@ -85,6 +85,7 @@ pub fn digest(seeds: u64, out: &mut impl Write) -> io::Result<()> {
             ("bins", masks::bin_lines(seed, 100)),
             ("attenuation", masks::attenuation_lines(seed, 200)),
             ("records", recorded::lines(seed, 200)),
+            ("milliseconds", rates::lines(seed, 200)),
             ("calls", calls::lines(seed, 2_000)),
         ] {
             writeln!(out, "{name} {seed} {:016x}", Digest::text(text.as_bytes()))?;

@@ -1,13 +1,15 @@
-//! 01's listing: one line for each accepted frame and each refusal, then `end` or `bad`.
+//! 01's listing: one line for each accepted frame and each refusal, then `end` or `bad`. The
+//! milliseconds are 02's.
 use crate::engine::Particles;
 use crate::field::{read, Field};
+use crate::milliseconds::milliseconds;
 use crate::runner::{run, Answer, Bad, Ended};
 use crate::value::bits32;
 use std::fmt::Write;
 
 pub fn listing<E: Particles>(start: u64, script: &[u8]) -> String {
     let mut text = String::new();
-    let whole_rate = whole_rate(script);
+    let rate = rate(script);
     let ended = run(start, script, |field, answer, engine: &E| match answer {
         Answer::Framed(frame) => {
             let sample = engine.elapsed_samples();
@@ -16,7 +18,7 @@ pub fn listing<E: Particles>(start: u64, script: &[u8]) -> String {
                 text,
                 "frame {field} sample {sample} ms {} active {} births {births} dropped {dropped} \
                  hash {hash:016x} activity {:08x}",
-                sample * 1000 / whole_rate,
+                milliseconds(sample, rate),
                 engine.active_count(),
                 bits32(frame.activity),
             )
@@ -32,10 +34,10 @@ pub fn listing<E: Particles>(start: u64, script: &[u8]) -> String {
     text
 }
 
-/// The whole part of the script's rate. Where the script has none no frame is printed.
-fn whole_rate(script: &[u8]) -> u64 {
+/// The script's rate. Where it has none no frame is printed.
+fn rate(script: &[u8]) -> f32 {
     match read(script, true) {
-        Ok((Field::Rate(rate), _)) => rate as u64,
-        _ => 0,
+        Ok((Field::Rate(rate), _)) => rate,
+        _ => 0.0,
     }
 }

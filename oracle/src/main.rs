@@ -28,6 +28,7 @@ mod ours;
 mod part;
 mod port;
 mod probes;
+mod rates;
 mod reached;
 mod record_bytes;
 mod recorded;
@@ -59,7 +60,12 @@ mod runner {
     include!(concat!(env!("OUT_DIR"), "/runner.rs"));
 }
 
-/// Order 5's numbers and records, which a mutant may change too.
+/// Order 1's milliseconds, which a mutant may change too.
+mod milliseconds {
+    include!(concat!(env!("OUT_DIR"), "/milliseconds.rs"));
+}
+
+/// Order 5's numbers and records, and these.
 mod tenths {
     include!(concat!(env!("OUT_DIR"), "/tenths.rs"));
 }

@@ -176,7 +176,7 @@ pub fn room_for(script: &[u8]) -> usize {
 
 /// Whether the listing of a script on an engine that has counted `start` samples, and its length, are
 /// the same, the bytes behind it untouched; with bytes too few there is none.
-fn listing_same(start: u64, script: &[u8], too_few: usize) -> Option<bool> {
+pub fn listing_same(start: u64, script: &[u8], too_few: usize) -> Option<bool> {
     let text = match too_few {
         0 => listing::<Engine>(start, script),
         _ => String::new(),

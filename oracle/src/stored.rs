@@ -2,13 +2,15 @@
 //! form that the program reads with no Rust at hand.
 //!
 //! A line of the list is `listing KIND SEED BYTES`, `late KIND SEED BYTES` (from the script's late
-//! start) or `frame KIND SEED BYTES`, for the first BYTES bytes of a generated script, or `example
-//! NAME`, for a script of a folder. A case is a header, the script and, where it is asked for, the
+//! start) or `frame KIND SEED BYTES`, for the first BYTES bytes of a generated script; `example NAME`,
+//! for a script of a folder; or `milliseconds RATE SAMPLES MS`, for a frame after so many samples, whose
+//! milliseconds are given and must be the listing's. A case is a header, the script and, where it is asked for, the
 //! listing. The header gives a name, the seed and the script's length; for a listing 0, its length and
 //! the start; for a frame 1, the entry's answer and the digest of the 2,308 bytes. The script has a
 //! field to a line: how many bytes more it gives by repetition, how many it has, and they.
 use crate::bytes::{last_frame, SIZE};
 use crate::digest::Digest;
+use crate::gen::script::Script;
 use crate::listing::listing;
 use crate::original::Engine;
 use crate::{gen, late};
@@ -27,6 +29,16 @@ pub fn cases(folder: &Path, list: &str) -> Option<String> {
             ["example", name] => {
                 let script = fs::read(folder.join(name).with_extension("script")).ok()?;
                 listed(&mut out, &format!("ex-{name}"), 0, 0, &script);
+            }
+            ["milliseconds", rate, samples, ms] => {
+                let mut script = Script::at(rate.parse().ok()?);
+                script.frame(8.0, 0.04);
+                let line = format!(" sample {samples} ms {ms} ");
+                let samples = samples.parse().ok()?;
+                if !listing::<Engine>(samples, &script.0).contains(&line) {
+                    return None;
+                }
+                listed(&mut out, words[0], 0, samples, &script.0);
             }
             [what, kind, seed, bytes] => {
                 let seed = seed.parse().ok()?;

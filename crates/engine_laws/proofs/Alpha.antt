@@ -11,18 +11,18 @@ use lib.Ieee.Bits.{ofBits-fits}
 use lib.Ieee.Scale.{finite}
 use Rattle.floats.specs.Names.{f32, f64, sub64, mul64, div64}
 use Rattle.floats_laws.proofs.Rules.{add-number, neg-finite, between-finite, le-trans as float-trans}
-use Rattle.floats_laws.proofs.Rising.{nought, sub-falls}
+use Rattle.floats_laws.proofs.Rising.{sub-falls}
 use Rattle.floats_laws.proofs.Products.{mul-rises-right}
-use Rattle.floats_laws.proofs.Mag.{Mag, mag-finite, le-upto}
+use Rattle.floats_laws.proofs.Mag.{mag-finite}
 use Rattle.floats_laws.proofs.Bounds.{mul-mag}
 use Rattle.powers.specs.Placed.{edged, placed}
 use Rattle.powers.specs.Exp64.{exp64, expBits, sided, scaled, expMantissa, high}
 use Rattle.powers.proofs.Exp64Rises.{exp64-like}
 use Rattle.settings.specs.Settings.{lawfulRate}
+use Rattle.settings_laws.proofs.Rates.{rate-mag}
 use Rattle.state.specs.Make.{alphaOf}
 use Rattle.floats_laws.proofs.Fractions.{Under, Above, held, div-under}
 use Rattle.floats_laws.proofs.Between.{under-between, under-least, under-most, above-of}
-use Rattle.floats_laws.proofs.Units.{zero-fits}
 
 -- ---- e to the power
 exp64-fits : (x : Float) → T (fits binary64 (exp64 x))
@@ -65,15 +65,6 @@ twentieth = f64 0x3fa999999999999a
 least-product : Above (mul64 twentieth (f32 0x45fa0000)) 399
 unfolding ofBits mul round units odd size span climb
 least-product = lit≤ tt
-
-rate-mag : (rate : Float) → T (fits binary32 rate) → T (lawfulRate rate) → Mag rate 384000
-unfolding lawfulRate ofBits le lt eq
-rate-mag rate p l =
-    let lowest = f32 0x45fa0000 in
-    let highest = f32 0x48bb8000 in
-    let bounds = le lowest rate && le rate highest in
-    let b = and-r (finite rate) bounds l in
-    le-upto rate highest 384000 (float-trans binary32 nought lowest rate (zero-fits binary32 false) (ofBits-fits binary32 0x45fa0000) p tt (and-l (le lowest rate) (le rate highest) b)) (and-r (le lowest rate) (le rate highest) b) (lit≤ tt)
 
 module _ (rate : Float) (p : T (fits binary32 rate)) (l : T (lawfulRate rate)) where
   abbrev product : Float

@@ -17,3 +17,4 @@ pub mod Weighed
 pub mod Alpha
 pub mod Clocks
 pub mod Opportunities
+pub mod Prepared

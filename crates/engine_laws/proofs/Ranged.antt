@@ -22,7 +22,7 @@ use Rattle.floats_laws.proofs.Fractions.{Under}
 use Rattle.settings.specs.declared.Config.{Config}
 use Rattle.settings.specs.Mending.{finiteOr, heldTo, rateHeld, mendedOf}
 use Rattle.settings_laws.proofs.Again.{finite-or, phase-within, phase-fits}
-use Rattle.settings_laws.proofs.Seconds.{rate-above}
+use Rattle.settings_laws.proofs.Rates.{rate-above}
 use Rattle.timing.specs.Streams.{movedOf, referenceOf}
 use Rattle.timing_laws.proofs.Lanes.{Streamed, new-streamed, moved-streamed, prepared-streamed}
 use Rattle.engine_laws.proofs.Alpha.{alpha-small}

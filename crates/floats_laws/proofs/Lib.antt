@@ -38,3 +38,4 @@ pub mod Between
 pub mod Level
 pub mod Eighths
 pub mod Floors
+pub mod Parts

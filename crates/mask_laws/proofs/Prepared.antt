@@ -9,7 +9,7 @@ use denote.Floats.{passes}
 use lib.IntN.{pos, negsuc}
 use lib.Dec.{T, ltb, eqb, eqb·suc-zero}
 use lib.ListN.{length, getD}
-use lib.Ieee.{Float, nan, inf, fin, binary32, ofBits, ofInt, up, down, round, div, lt, le, eq, fits}
+use lib.Ieee.{Float, nan, inf, fin, binary32, ofBits, ofInt, up, down, round, div, lt, le, fits}
 use lib.Ieee as Ieee
 use lib.Ieee.Back.{round-whole}
 use lib.Ieee.Bits.{is-true}
@@ -27,16 +27,17 @@ use Rattle.floats.specs.Names.{mul32, div32, zero32, asFloat}
 use Rattle.floats_laws.proofs.Bounds.{div-mag, of-upto}
 use Rattle.floats_laws.proofs.Casting.{whole-rises}
 use Rattle.floats_laws.proofs.Ends.{not-above}
-use Rattle.floats_laws.proofs.Mag.{Mag, Upto, Least, mag-finite, mag-more, least-pos, least-up, le-upto}
+use Rattle.floats_laws.proofs.Mag.{Mag, Upto, Least, mag-finite, mag-more, least-pos, least-up}
 use Rattle.floats_laws.proofs.Mono.{le→signed}
 use Rattle.floats_laws.proofs.Numbers.{mul-number}
 use Rattle.floats_laws.proofs.Powers.{mul-power, of-power}
 use Rattle.floats_laws.proofs.Rising.{nought, mul-rises}
-use Rattle.floats_laws.proofs.Rules.{lt→le, le-trans as le-through}
+use Rattle.floats_laws.proofs.Rules.{lt→le}
 use Rattle.floats_laws.proofs.Spans.{least-above}
 use Rattle.floats_laws.proofs.Through.{lt-le}
-use Rattle.floats_laws.proofs.Units.{one as i, zero-fits, one-times}
+use Rattle.floats_laws.proofs.Units.{one as i, one-times}
 use Rattle.settings.specs.Settings.{lawfulRate}
+use Rattle.settings_laws.proofs.Rates.{rate-mag}
 use Rattle.mask_gains.specs.Bins.{logAt, logsOf}
 use Rattle.mask_gains.specs.Logs.{lawfulAt, lawfulLogs}
 
@@ -93,14 +94,6 @@ one-is : asFloat 1 ≡ i
 unfolding ofInt round Ieee.units Ieee.odd Ieee.size Ieee.span Ieee.climb
 one-is = refl
 
-z-below-lowest : T (le nought lowest)
-unfolding le lt eq
-z-below-lowest = tt
-
-lowest-fits : T (fits binary32 lowest)
-unfolding fits
-lowest-fits = tt
-
 -- ---- the frequencies of the bins, and their logs
 module _ (rate : Float) (fr : T (fits binary32 rate)) (ok : lawfulRate rate ≡ true) (size : ℕ) (some : 1 ≤ size) (most : size ≤ 16384) where
   abbrev hz : Float
@@ -119,17 +112,11 @@ module _ (rate : Float) (fr : T (fits binary32 rate)) (ok : lawfulRate rate ≡ 
   rate-from : T (le lowest rate)
   rate-from = and-l (le lowest rate) (le rate highest) (and-r (finite rate) (le lowest rate && le rate highest) lawful)
 
-  rate-to : T (le rate highest)
-  rate-to = and-r (le lowest rate) (le rate highest) (and-r (finite rate) (le lowest rate && le rate highest) lawful)
-
-  rate-mag : Mag rate 384000
-  rate-mag = le-upto rate highest 384000 (le-through binary32 nought lowest rate (zero-fits binary32 false) lowest-fits fr z-below-lowest rate-from) rate-to (omega arith)
-
   size-least : Least (asFloat size) 1
   size-least = whole-least (asFloat size) size some (size-value size (omega arith))
 
   hz-mag : Mag hz 384000
-  hz-mag = div-mag binary32 rate (asFloat size) 384000 1 (omega arith) rate-mag size-least
+  hz-mag = div-mag binary32 rate (asFloat size) 384000 1 (omega arith) (rate-mag rate fr (passes _ ok)) size-least
 
   hz-finite : T (finite hz)
   hz-finite = mag-finite hz 384000 hz-mag

@@ -18,3 +18,5 @@ pub mod Stories
 pub mod Triggers
 pub mod Writing
 pub mod Follow
+pub mod Milliseconds
+pub mod Told

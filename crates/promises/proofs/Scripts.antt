@@ -99,7 +99,7 @@ step-engine before F.Reserve = refl
 step-engine before (F.ReservedTrigger s i) = fired-engine before (triggeredBy (before .engine) s i)
 
 -- ---- a course
-run-append : (e : Engine) (xs ys : List Call) → run e (xs ++ ys) ≡ run (run e xs) ys
+pub run-append : (e : Engine) (xs ys : List Call) → run e (xs ++ ys) ≡ run (run e xs) ys
 unfolding run
 run-append e [] ys = refl
 run-append e (x ∷ xs) ys = run-append (applied e x) xs ys
@@ -216,7 +216,7 @@ reads-typed {n} {at} {s} (field e lo hi d) = (subst TypedField (whole s (eqb n 1
 reads-typed (wrong e) = tt
 reads-typed (end e) = tt
 
-every-take : {A : Type 0} (P : A → Type 0) (n : ℕ) (l : List A) → Every P l → Every P (take n l)
+pub every-take : {A : Type 0} (P : A → Type 0) (n : ℕ) (l : List A) → Every P l → Every P (take n l)
 every-take P zero l a = tt
 every-take P (suc n) [] a = tt
 every-take P (suc n) (x ∷ l) a = (a .0, every-take P n l (a .1))

@@ -14,3 +14,4 @@ pub mod Stops
 pub mod Tests
 pub mod Triggers
 pub mod Over
+pub mod Milliseconds

@@ -13,15 +13,18 @@ pub struct Values {
     pub activity: u32,
 }
 
-// Samples * 1000 / whole part of the rate, rounded down.
-fn milliseconds(samples: u64, rate: f64) -> u64
+// Samples * 1000 / rate, rounded down, at every count and lawful rate. Such a rate is a whole number of
+// 2,048ths, since it is an f32 above 4,096; the samples are divided before they are multiplied, so that
+// no product passes 64 bits.
+fn milliseconds(samples: u64, rate: f32) -> u64
     ensures { λ r. ⌜ r ≡ millisecondsOf samples rate ⌝ }
 {
-    let whole = floats::f64_to_u64(rate);
-    if whole == 0 {
-        return 0;
+    if settings::lawful_rate(rate) {
+        let parts = floats::f64_to_u64(floats::f32_to_f64(rate) * 2048.0);
+        samples / parts * 2048000 + samples % parts * 2048000 / parts
+    } else {
+        0
     }
-    floats::wrapping_mul(samples, 1000) / whole
 }
 
 pub fn values_of(engine: Engine, activity: f32) -> Values
@@ -30,7 +33,7 @@ pub fn values_of(engine: Engine, activity: f32) -> Values
     let sample = engine::elapsed_samples(engine);
     Values {
         sample,
-        ms: milliseconds(sample, engine.prepared.sample_rate),
+        ms: milliseconds(sample, floats::f64_to_f32(engine.prepared.sample_rate)),
         active: engine::active_count(engine) as u64,
         births: engine.tally.births,
         dropped: engine.tally.dropped,

@@ -28,7 +28,7 @@ use Rattle.script_writer_laws.proofs.Pieces.{tagOf, event-again}
 abbrev tag-test : ℕ → Bool
 tag-test t = eqb (tagOf (kindOf t)) t
 
-known-tag : (t : ℕ) → unknown t ≡ false → (0 < t) × (t < 14)
+pub known-tag : (t : ℕ) → unknown t ≡ false → (0 < t) × (t < 14)
 unfolding unknown
 known-tag t e =
     by-case (eqb t 0)
@@ -37,7 +37,7 @@ known-tag t e =
     (λ z. absurd (true≢false (rw (y, z) at e)))
     (λ z. let a = eqb-false t 0 y in let b = ltb-false 13 t z in (omega arith, omega arith)))
 
-tag-again : (t : ℕ) → t < 14 → tagOf (kindOf t) ≡ t
+pub tag-again : (t : ℕ) → t < 14 → tagOf (kindOf t) ≡ t
 tag-again t h = eqb→eq (tagOf (kindOf t)) t (all-at tag-test 14 tt t h)
 
 known-kind : (t : ℕ) → unknown t ≡ false → kindOf t ≡ K.Unknown → ⊥

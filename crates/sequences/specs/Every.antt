@@ -1,9 +1,9 @@
 -- What holds of every element of a list, and of either side of a choice by a test.
 use Prim.Native.Nat.{ℕ, zero, suc, _<_}
 use native.Mathlib.Nat.{le-of-suc-le-suc, not-suc-le-zero}
-use mathlib.Core.Path.{_≡_, subst}
+use mathlib.Core.Path.{_≡_, refl, ap, subst}
 use mathlib.Core.Bool.{Bool, true, false}
-use mathlib.Core.List.{List, [], _∷_, map}
+use mathlib.Core.List.{List, [], _∷_, _++_, map}
 use lib.ListN.{length, getD, set, replicate}
 use Rattle.sequences.specs.Pick.{pick, picked, passed, by-case}
 
@@ -40,6 +40,15 @@ module _ {A : Type 0} (P : A → Type 0) where
   every-at [] i d h a = absurd (not-suc-le-zero h)
   every-at (x ∷ xs) zero d h a = a .0
   every-at (x ∷ xs) (suc i) d h a = every-at xs i d (le-of-suc-le-suc h) (a .1)
+
+  -- of an element by what stands before and behind it
+  pub every-there : (before after : List A) (x : A) → Every P (before ++ x ∷ after) → P x
+  every-there [] after x a = a .0
+  every-there (y ∷ before) after x a = every-there before after x (a .1)
+
+  pub every-each : (xs : List A) → ((before after : List A) (x : A) → xs ≡ before ++ x ∷ after → P x) → Every P xs
+  every-each [] h = tt
+  every-each (x ∷ xs) h = (h [] xs x refl, every-each xs (λ before after y q. h (x ∷ before) after y (ap {B = List A} (λ (ys : List A). x ∷ ys) q)))
 
 -- each side knows how the test came out
 pub in-case : {A : Type 0} (P : A → Type 0) (t : Bool) (a b : A) → (t ≡ true → P a) → (t ≡ false → P b) → P (pick t a b)

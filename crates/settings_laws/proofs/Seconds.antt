@@ -3,26 +3,25 @@ use Prim.Native.Nat.{ℕ, _*_, _^_, _≤_, _<_}
 use native.Mathlib.Nat.{le-trans, le-of-eq, mul-comm, mul-assoc, mul-pos, zero-mul, mul-le-mul-right}
 use native.Mathlib.Omega.{arith}
 use mathlib.Core.Path.{_≡_, refl, sym, ap, _∙_}
-use mathlib.Core.Bool.{Bool, true, false, _&&_}
+use mathlib.Core.Bool.{Bool, true, false}
 use lib.IntN.{pos}
-use lib.Dec.{T, eqb, eqb→eq, lit≤, lit<}
+use lib.Dec.{T, eqb, eqb→eq, lit≤}
 use lib.Pow.{pow-pos}
-use lib.Ieee.{Float, nan, inf, fin, binary32, up, down, ofBits, ofInt, mul, div, round, le, unlike}
-use lib.Ieee.Fits.{down-pos, and-l, and-r}
+use lib.Ieee.{Float, nan, inf, fin, binary32, up, down, ofBits, ofInt, mul, div, round, unlike}
+use lib.Ieee.Fits.{down-pos}
 use lib.Ieee.Exact.{HasValue}
-use lib.Ieee.Scale.{finite}
 use denote.Floats.{passes}
 use Rattle.sequences.specs.Pick.{by-case}
-use Rattle.floats.specs.Names.{f32, mul32, div32, sub32, two}
+use Rattle.floats.specs.Names.{mul32, div32, sub32, two}
 use Rattle.floats.specs.Choose.{max}
 use Rattle.floats_laws.proofs.Mag.{Mag, Upto, Least, round-mag, round-upto}
 use Rattle.floats_laws.proofs.Bounds.{max-mag, mul-upto, of-upto, apart-mag}
-use Rattle.floats_laws.proofs.Between.{above-of}
 use Rattle.floats_laws.proofs.Held.{max-least}
 use Rattle.floats_laws.proofs.Spans.{least-upto, max-least-left}
 use Rattle.floats_laws.proofs.Fractions.{Above}
 use Rattle.settings.specs.Settings.{maxHop, lawfulRate}
 use Rattle.settings.specs.Envelope.{milli, minStage, hopFloorOf, onsetOf, releaseOf}
+use Rattle.settings_laws.proofs.Rates.{rate-above}
 
 -- ---- milliseconds: 5000 * 0.001 rounds to 5
 five-thousand : HasValue (round binary32 false (5000 * 8589935) (2 ^ 33)) false 5 1
@@ -39,14 +38,6 @@ millis-mag (fin s m e) h = go (unlike s false)
     go t = round-mag binary32 t (m * up e * (8589935 * 1)) (down e * 2 ^ 33) (5000 * 8589935) (2 ^ 33) 5 (mul-pos (down-pos e) (pow-pos 33)) (pow-pos 33) (omega arith) five-thousand
 
 -- ---- the hop's floor: at most 32768 / 8000
--- a lawful rate is at least 8000
-pub rate-above : (rate : Float) → T (lawfulRate rate) → Above rate 8000
-unfolding lawfulRate ofBits
-rate-above rate l =
-    let lowest = f32 0x45fa0000 in
-    let bounds = le lowest rate && le rate (f32 0x48bb8000) in
-    above-of lowest rate 8000 (lit< tt) (lit≤ tt) (and-l (le lowest rate) _ (and-r (finite rate) bounds l)) (and-l (finite rate) bounds l)
-
 five : HasValue (round binary32 false 5 1) false 5 1
 unfolding round
 five = (refl, refl)
