@@ -67,9 +67,6 @@ only : (ms samples : ℕ) (rate : Float) → T (lawfulRate rate) → Within ms s
 only ms samples rate l w = sym (div-eq-of-lt-le (num rate) (w .0) (w .1)) ∙ sym (at-lawful samples rate l)
 
 -- ---- rates
-in-2048ths : (rate : Float) → Single rate → T (lawfulRate rate) → (k : ℕ) × (HasValue rate false k 2048) × (k < 2 ^ 30)
-in-2048ths rate f l = let w = rate-parts rate f l in (w .parts, w .is, omega (arith, w .most))
-
 few : (a b : ℕ) → a ≤ 384000 → min a (2 ^ 64 - 1) ≡ a
 few a b h = omega arith
 
@@ -153,20 +150,43 @@ says-few : (e : Engine) → Lawful e → (v : Values) (activity : Float) → v �
 unfolding valuesOf
 says-few e w v activity h = subst (λ (x : Values). x .sample ≤ 2 ^ 40) (sym h) (w .clock .elapsed)
 
-listed : (s : List ℕ) (rate : Float) (fs : List Field) → fieldsOf s ≡ F.Rate rate ∷ fs → T (lawfulRate rate)
-    → (before after : List Turn) (t : Turn) → turnsOf s ≡ before ++ t ∷ after → (n : ℕ) (v : Values) → t .line ≡ L.Frame n v
-    → Within (v .ms) (v .sample) rate × (v .sample ≤ 2 ^ 40)
-listed s rate fs h l before after t split n v framed =
+-- after a turn the engine is that of a run, at the script's rate, and the turn's line tells of it
+record Line (rate : Float) (e : Engine) (v : Values) : Type 0 where
+  lawful : Lawful e
+  own : e .prepared .«sample_rate» ≡ rate
+  activity : Float
+  tells : v ≡ valuesOf e activity
+
+line : (s : List ℕ) (rate : Float) (fs : List Field) → fieldsOf s ≡ F.Rate rate ∷ fs → T (lawfulRate rate)
+    → (before after : List Turn) (t : Turn) → turnsOf s ≡ before ++ t ∷ after → (n : ℕ) (v : Values) → t .line ≡ L.Frame n v → Line rate (t .run .engine) v
+line s rate fs h l before after t split n v framed =
     let e = t .run .engine in
-    let k = courseOf s (suc (length before)) in
+    let m = suc (length before) in
+    let k = courseOf s m in
     let is : e ≡ reached k = scripts .turn-is-run s before after t split in
-    let w : Lawful e = subst Lawful (sym is) (every-run .lawful (k .start) (scripts .begins s (suc (length before))) (k .calls) (scripts .typed s (suc (length before)))) in
-    let own : e .prepared .«sample_rate» ≡ rate = ap (λ (x : Engine). x .prepared .«sample_rate») is ∙ script-rate s rate fs h l (length before) in
-    let tells : Tells e (L.Frame n v) = subst (Tells e) framed (told s before after t split) in (
-      subst (λ (ms : ℕ). Within ms (v .sample) rate) (sym (says-rate e rate w own v (tells .0) (tells .1))) (exact (v .sample) rate l),
-      says-few e w v (tells .0) (tells .1),
-    )
+    let told : Tells e (L.Frame n v) = subst (Tells e) framed (told s before after t split) in
+    record {
+      lawful = subst Lawful (sym is) (every-run .lawful (k .start) (scripts .begins s m) (k .calls) (scripts .typed s m));
+      own = ap (λ (x : Engine). x .prepared .«sample_rate») is ∙ script-rate s rate fs h l (length before);
+      activity = told .0;
+      tells = told .1;
+    }
+
+line-within : (rate : Float) (e : Engine) (v : Values) → T (lawfulRate rate) → Line rate e v → Within (v .ms) (v .sample) rate
+line-within rate e v l w = subst (λ (ms : ℕ). Within ms (v .sample) rate) (sym (says-rate e rate (w .lawful) (w .own) v (w .activity) (w .tells))) (exact (v .sample) rate l)
+
+line-few : (rate : Float) (e : Engine) (v : Values) → Line rate e v → v .sample ≤ 2 ^ 40
+line-few rate e v w = says-few e (w .lawful) v (w .activity) (w .tells)
 
 -- THE PROMISE
 pub milliseconds : Milliseconds
-milliseconds = record { exact = exact; only = only; in-2048ths = in-2048ths; whole-rates = whole-rates; listed = listed }
+milliseconds =
+    record {
+      exact = λ samples rate l. exact samples rate l;
+      only = λ ms samples rate l w. only ms samples rate l w;
+      in-2048ths = λ rate f l. let w = rate-parts rate f l in (w .parts, w .is, omega (arith, w .most));
+      whole-rates = λ samples n rate f l v. whole-rates samples n rate f l v;
+      listed = λ s rate fs h l before after t split n v framed.
+          let w = line s rate fs h l before after t split n v framed in
+          (line-within rate (t .run .engine) v l w, line-few rate (t .run .engine) v w);
+    }
