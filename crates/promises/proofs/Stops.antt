@@ -25,7 +25,8 @@ use Rattle.script.specs.declared.Read.the-variants as R
 use Rattle.script.specs.Reading.{Placed, Reading, Verdict, fieldAt, inFront, ended, bad, onward}
 use Rattle.script.proofs.Steps.{Reads, field, wrong, end, onward-reads, moved}
 use Rattle.script.proofs.Whole.{whole}
-use Rattle.script_writer_laws.specs.Events.{isRate, events}
+use Rattle.script_writer_laws.specs.Events.{events}
+use Rattle.script_writer_laws.proofs.OneRate.{one-rate}
 use Rattle.script_steps.specs.declared.Run.{Run}
 use Rattle.script_steps.specs.declared.Reply.{Reply}
 use Rattle.script_steps.specs.declared.Reply.the-variants as P
@@ -223,11 +224,6 @@ module _ (s : List ℕ) where
   stopped-by-rate (stopped x fs run q b t) n = ap linesOf (turns-follow s ∙ t)
   stopped-by-rate (went-on x fs q b g) n = absurd (n (rw (q, b)))
 
-  rate-first : Opens r → (f : Field) (fs : List Field) → events r ≡ f ∷ fs → isRate f ≡ true
-  rate-first (none q) f fs e = absurd (let w : _≡_ {A = List Field} [] (f ∷ fs) = sym (ap (λ (ps : List Placed). map (λ (p : Placed). p .field) ps) q) ∙ e in let z : _≡_ {A = ℕ} 0 1 = cc in omega arith)
-  rate-first (stopped x gs run q b t) f fs e = let w : F.Rate x ≡ f = cc in ap isRate (sym w)
-  rate-first (went-on x gs q b g) f fs e = let w : F.Rate x ≡ f = cc in ap isRate (sym w)
-
   listed : Ends → badIn (lines s) ≡ firstOf ((ltb 60000 (length s), 12) ∷ stopRows s)
   unfolding firstOf pick
   listed d =
@@ -280,7 +276,7 @@ stops s =
       listing = listed s d;
       too-long = too-long s;
       number = number s d;
-      rate-first = rate-first s o;
+      rate-first = λ f fs e. one-rate s f fs e .0;
       stopped = stopped-by-rate s o;
       through = through s o;
       refused = λ before after t h fs gs f e l.

@@ -17,7 +17,7 @@ use Rattle.script.specs.Field.{misplaced, readOf}
 use Rattle.script.specs.Reading.{Reading, onward}
 use Rattle.script.proofs.Steps.{Reads, field, wrong, end, onward-reads}
 use Rattle.script.proofs.Whole.{whole, kindAt, valueOf}
-use Rattle.script_writer_laws.specs.Events.{isRate, NoRate, Ordered, events}
+use Rattle.script_writer_laws.specs.Events.{isRate, NoRate, events}
 use Rattle.script_writer_laws.proofs.Pieces.{tagOf}
 use Rattle.script_writer_laws.proofs.WrittenBack.{known-tag, tag-again}
 
@@ -60,7 +60,7 @@ later {n} {at} {s} (field e lo hi d) h = (read-rate s (eqb n 1) e ∙ ne-eqb n 1
 later (wrong e) h = tt
 later (end e) h = tt
 
-from-first : {n at : ℕ} {s : List ℕ} {r : Reading} → Reads n at s r → n ≡ 1 → (f : Field) (fs : List Field) → events r ≡ f ∷ fs → Ordered (f ∷ fs)
+from-first : {n at : ℕ} {s : List ℕ} {r : Reading} → Reads n at s r → n ≡ 1 → (f : Field) (fs : List Field) → events r ≡ f ∷ fs → (isRate f ≡ true) × Every NoRate fs
 from-first {n} {at} {s} (field {f = g} {r = r} e lo hi d) q f fs h =
     let same : g ≡ f = cc in
     let rest : events r ≡ fs = cc in
@@ -68,5 +68,5 @@ from-first {n} {at} {s} (field {f = g} {r = r} e lo hi d) q f fs h =
 from-first (wrong e) q f fs h = absurd (let z : _≡_ {A = ℕ} 0 1 = cc in omega arith)
 from-first (end e) q f fs h = absurd (let z : _≡_ {A = ℕ} 0 1 = cc in omega arith)
 
-pub one-rate : (s : List ℕ) (f : Field) (fs : List Field) → events (onward 1 0 s) ≡ f ∷ fs → Ordered (f ∷ fs)
+pub one-rate : (s : List ℕ) (f : Field) (fs : List Field) → events (onward 1 0 s) ≡ f ∷ fs → (isRate f ≡ true) × Every NoRate fs
 one-rate s = from-first (onward-reads 1 0 s) refl
