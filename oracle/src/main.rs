@@ -60,12 +60,12 @@ mod runner {
     include!(concat!(env!("OUT_DIR"), "/runner.rs"));
 }
 
-/// Order 1's milliseconds, which a mutant may change too.
+/// Order 1's milliseconds, as a mutant may change them too.
 mod milliseconds {
     include!(concat!(env!("OUT_DIR"), "/milliseconds.rs"));
 }
 
-/// Order 5's numbers and records, and these.
+/// Order 5's numbers and records, likewise.
 mod tenths {
     include!(concat!(env!("OUT_DIR"), "/tenths.rs"));
 }

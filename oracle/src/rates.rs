@@ -35,8 +35,8 @@ fn rate(d: &mut Draws) -> f32 {
     chosen.clamp(8_000.0, 384_000.0)
 }
 
-/// A frame at each of five samples, the third of which is the first of a millisecond, and the sample that
-/// it starts at.
+/// A frame at each of five samples, from two before the first of a millisecond on, or from 0; and the
+/// sample that they start at.
 fn about(d: &mut Draws) -> (u64, Script) {
     let rate = rate(d);
     let last = milliseconds(SAMPLE_LIMIT, rate) as u64;

@@ -4,10 +4,10 @@
 //! A line of the list is `listing KIND SEED BYTES`, `late KIND SEED BYTES` (from the script's late
 //! start) or `frame KIND SEED BYTES`, for the first BYTES bytes of a generated script; `example NAME`,
 //! for a script of a folder; or `milliseconds RATE SAMPLES MS`, for a frame after so many samples, whose
-//! milliseconds are given and must be the listing's. A case is a header, the script and, where it is asked for, the
-//! listing. The header gives a name, the seed and the script's length; for a listing 0, its length and
-//! the start; for a frame 1, the entry's answer and the digest of the 2,308 bytes. The script has a
-//! field to a line: how many bytes more it gives by repetition, how many it has, and they.
+//! milliseconds are given and must be the listing's. A case is a header, the script and, where it is
+//! asked for, the listing. The header gives a name, the seed and the script's length; for a listing 0,
+//! its length and the start; for a frame 1, the entry's answer and the digest of the 2,308 bytes. The
+//! script has a field to a line: how many bytes more it gives by repetition, how many it has, and they.
 use crate::bytes::{last_frame, SIZE};
 use crate::digest::Digest;
 use crate::gen::script::Script;

@@ -1,6 +1,6 @@
 //! 02, order 5: the tenth that an attenuation is taken to, and the table of 601 entries, both in whole
 //! numbers.
-use crate::whole::Whole;
+use crate::whole::{fraction, Whole};
 use std::sync::OnceLock;
 
 /// The tenths of 60 decibels.
@@ -25,15 +25,6 @@ pub fn tenth(a: f32) -> Option<u32> {
     }
     let one = 1_u128 << places;
     Some(((20 * digits + one) / (2 * one)) as u32)
-}
-
-/// A positive float below 60 is digits / 2^places.
-fn fraction(a: f32) -> (u128, u32) {
-    let (exponent, low) = (a.to_bits() >> 23, a.to_bits() & 0x7f_ffff);
-    match exponent {
-        0 => (low.into(), 149),
-        _ => ((low | 1 << 23).into(), 150 - exponent),
-    }
 }
 
 /// Both sides of 02's rule: whether (2e - 1)^200 * 10^n is below 65,536^200, and that below

@@ -1,5 +1,15 @@
-//! Whole numbers of any size, as far as 02's table needs them: products, powers, order.
+//! Whole numbers of any size, as far as 02's table needs them: products, powers, order. And a float as a
+//! fraction of two.
 use std::cmp::Ordering;
+
+/// A positive float below 2^24 is digits / 2^places.
+pub fn fraction(x: f32) -> (u128, u32) {
+    let (exponent, low) = (x.to_bits() >> 23, x.to_bits() & 0x7f_ffff);
+    match exponent {
+        0 => (low.into(), 149),
+        _ => ((low | 1 << 23).into(), 150 - exponent),
+    }
+}
 
 /// Words of 64 bits, the lowest first, the highest not 0.
 #[derive(Clone, PartialEq, Eq)]

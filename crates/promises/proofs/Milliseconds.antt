@@ -1,5 +1,5 @@
 -- Exact milliseconds: the rule by a division, whole rates, and line by line over a script, whose rate no call changes.
-use Prim.Native.Nat.{ℕ, suc, _+_, _-_, _*_, _/_, _^_, _≤_, _<_, min}
+use Prim.Native.Nat.{ℕ, suc, _+_, _*_, _/_, _^_, _≤_, _<_}
 use native.Mathlib.Nat.{lt-of-lt-of-le, mul-one, mul-pos, add-mul, one-mul, div-mul-le-self, lt-div-mul-add, div-eq-of-lt-le, mul-div-cancel, mul-div-mul-right, le-of-mul-le-mul-right}
 use native.Mathlib.Omega.{arith}
 use mathlib.Core.Path.{_≡_, refl, sym, ap, _∙_, subst}
@@ -67,9 +67,6 @@ only : (ms samples : ℕ) (rate : Float) → T (lawfulRate rate) → Within ms s
 only ms samples rate l w = sym (div-eq-of-lt-le (num rate) (w .0) (w .1)) ∙ sym (at-lawful samples rate l)
 
 -- ---- rates
-few : (a b : ℕ) → a ≤ 384000 → min a (2 ^ 64 - 1) ≡ a
-few a b h = omega arith
-
 whole-part : (x : Float) (n : ℕ) → HasValue x false n 1 → Mag x 384000 → toUnsigned 64 x ≡ n
 unfolding toUnsigned
 whole-part nan n v a = absurd v
@@ -164,12 +161,12 @@ line s rate fs h l before after t split n v framed =
     let m = suc (length before) in
     let k = courseOf s m in
     let is : e ≡ reached k = scripts .turn-is-run s before after t split in
-    let told : Tells e (L.Frame n v) = subst (Tells e) framed (told s before after t split) in
+    let tells : Tells e (L.Frame n v) = subst (Tells e) framed (told s before after t split) in
     record {
       lawful = subst Lawful (sym is) (every-run .lawful (k .start) (scripts .begins s m) (k .calls) (scripts .typed s m));
       own = ap (λ (x : Engine). x .prepared .«sample_rate») is ∙ script-rate s rate fs h l (length before);
-      activity = told .0;
-      tells = told .1;
+      activity = tells .0;
+      tells = tells .1;
     }
 
 line-within : (rate : Float) (e : Engine) (v : Values) → T (lawfulRate rate) → Line rate e v → Within (v .ms) (v .sample) rate

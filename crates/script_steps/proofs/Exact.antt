@@ -19,6 +19,7 @@ use Rattle.settings_laws.proofs.Rates.{InParts, rate-parts}
 use Rattle.script_steps.specs.Values.{millisecondsOf}
 
 -- ---- the rate in 2,048ths, as the code has it
+-- 2,048
 abbrev pub many : Float
 many = f64 0x40a0000000000000
 

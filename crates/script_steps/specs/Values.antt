@@ -12,6 +12,7 @@ use Rattle.script_steps.specs.declared.values.Values.{Values}
 unfoldable pub millisecondsOf : ℕ → Float → ℕ
 millisecondsOf samples rate = pick (lawfulRate rate) (samples * 1000 * den rate / num rate) 0
 
+-- the rate's float is the f32 that the engine's f64 was made of
 unfoldable pub valuesOf : Engine → Float → Values
 valuesOf e activity =
     record {
