@@ -2,6 +2,7 @@
 use Prim.Native.Nat.{ℕ}
 use mathlib.Core.Path.{_≡_, sym, ap, _∙_}
 use mathlib.Core.List.{List}
+use lib.ListN.{drop}
 use lib.Dec.{eqb}
 use Rattle.refusals.specs.declared.Answer.{Answer}
 use Rattle.refusals.specs.declared.Answer.the-variants as A
@@ -64,12 +65,12 @@ module _ (run : Run) (e : Engine) (f : Frame) (r : Reply) where
         ∙ sym (ap (λ (a : Answer). frameStep run (g .engine) (g .frame) a) refused))
 
 -- ---- the turn
-module _ (run : Run) (n : ℕ) (s : List ℕ) (read : Read) (is : read ≡ readOf s (eqb n 1)) where
-  pub turn-as : (r : Read) → read ≡ r → afterOf run n r ≡ turnOf run n s
+module _ (run : Run) (n at : ℕ) (s : List ℕ) (read : Read) (is : read ≡ readOf (drop at s) (eqb n 1)) where
+  pub turn-as : (r : Read) → read ≡ r → afterOf run n at s r ≡ turnOf run n at s
   unfolding turnOf
-  turn-as r p = ap (afterOf run n) (sym p ∙ is)
+  turn-as r p = ap (afterOf run n at s) (sym p ∙ is)
 
-  pub turn-of : (field : Field) (k : ℕ) (e : Engine) (f : Frame) (r : Reply) (w : Said) → read ≡ S.Field field k → left e f r ≡ stepOf run field → w ≡ saidOf n k r
-      → toldOf (record { engine = e; frame = f }) (w .line) (w .taken) ≡ turnOf run n s
+  pub turn-of : (field : Field) (k : ℕ) (e : Engine) (f : Frame) (r : Reply) (w : Said) → read ≡ S.Field field k → left e f r ≡ stepOf run field → w ≡ saidOf n at k r
+      → toldOf (record { engine = e; frame = f }) (w .line) (w .taken) ≡ turnOf run n at s
   turn-of field k e f r w p stepped said =
-      said-as n k (record { engine = e; frame = f }) r w said ∙ ap (λ (x : Stepped). repliedOf n k (x .run) (x .reply)) stepped ∙ turn-as (S.Field field k) p
+      said-as n at k (record { engine = e; frame = f }) r w said ∙ ap (λ (x : Stepped). repliedOf n at k (x .run) (x .reply)) stepped ∙ turn-as (S.Field field k) p

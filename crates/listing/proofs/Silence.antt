@@ -5,8 +5,7 @@ use mathlib.Core.Bool.{true, false, false≢true}
 use mathlib.Core.List.{List, [], _++_}
 use native.Mathlib.Omega.{arith}
 use lib.Dec.{eqb}
-use lib.ListN.{length, drop, length-drop}
-use lib.Seq.{drop-drop}
+use lib.ListN.{length}
 use borrow.Author.Tests.{ne-eqb}
 use Rattle.sequences.specs.Pick.{picked, passed, by-case}
 use Rattle.floats.specs.Word.{grown}
@@ -29,7 +28,7 @@ no-text : (line : Line) → isSilent line ≡ true → textOf line ≡ []
 no-text L.Nothing h = refl
 no-text (L.Frame n v) h = absurd (false≢true h)
 no-text (L.Refused n r) h = absurd (false≢true h)
-no-text (L.Bad n r) h = absurd (false≢true h)
+no-text (L.Bad n r p) h = absurd (false≢true h)
 no-text (L.End n) h = absurd (false≢true h)
 
 on-silent : (line : Line) (k : ℕ) → goesOn U.Line line k ≡ true → isSilent line ≡ true
@@ -40,14 +39,14 @@ on-silent line k h = passed (eqb k 0) false (isSilent line) (ne-eqb k 0 (on-take
 -- from field n on, at place a of s, to the turn r: nothing is printed before it
 pub record Silent (s : List ℕ) (run : Run) (n a : ℕ) (r : Reached) : Type 0 where
   pub before : Run
-  pub is : r .turn ≡ turnOf before (r .n) (drop (r .at) s)
+  pub is : r .turn ≡ turnOf before (r .n) (r .at) s
   pub low : n ≤ r .n
   pub few : r .n + a ≤ n + r .at
   pub after : a ≤ r .at
   pub within : r .at ≤ length s
-  pub text : (m : ℕ) → textFrom (m + (r .n - n)) run n (drop a s) ≡ textFrom m before (r .n) (drop (r .at) s)
+  pub text : (m : ℕ) → textFrom (m + (r .n - n)) run n a s ≡ textFrom m before (r .n) (r .at) s
 
-at-once : (s : List ℕ) (run : Run) (n a : ℕ) → a ≤ length s → Silent s run n a (reachedAt (turnOf run n (drop a s)) n a)
+at-once : (s : List ℕ) (run : Run) (n a : ℕ) → a ≤ length s → Silent s run n a (reachedAt (turnOf run n a s) n a)
 at-once s run n a h =
     record {
       before = run;
@@ -56,13 +55,13 @@ at-once s run n a h =
       few = omega arith;
       after = omega arith;
       within = h;
-      text = λ m. ap (λ (f : ℕ). textFrom f run n (drop a s)) (omega arith);
+      text = λ m. ap (λ (f : ℕ). textFrom f run n a s) (omega arith);
     }
 
-one-more : (s : List ℕ) (run : Run) (n a : ℕ) (r : Reached) → n + 1 < 2 ^ 64 → goesOn U.Line (turnOf run n (drop a s) .line) (turnOf run n (drop a s) .taken) ≡ true
-    → Silent s (turnOf run n (drop a s) .run) (grown n) (a + turnOf run n (drop a s) .taken) r → Silent s run n a r
+one-more : (s : List ℕ) (run : Run) (n a : ℕ) (r : Reached) → n + 1 < 2 ^ 64 → goesOn U.Line (turnOf run n a s .line) (turnOf run n a s .taken) ≡ true
+    → Silent s (turnOf run n a s .run) (grown n) (a + turnOf run n a s .taken) r → Silent s run n a r
 one-more s run n a r top h q =
-    let t = turnOf run n (drop a s) in
+    let t = turnOf run n a s in
     let some = on-takes U.Line (t .line) (t .taken) h in
     let next : grown n ≡ n + 1 = omega arith in
     let low = q .low in
@@ -78,56 +77,52 @@ one-more s run n a r top h q =
       text = λ m.
           let f : ℕ = m + (r .n - (n + 1)) in
           let fuel : m + (r .n - n) ≡ suc f = omega arith in
-          ap (λ (g : ℕ). textFrom g run n (drop a s)) fuel
-          ∙ sym (more f run n (drop a s) some)
-          ∙ ap (λ (x : List ℕ). x ++ textFrom f (t .run) (n + 1) (drop (t .taken) (drop a s))) (no-text (t .line) (on-silent (t .line) (t .taken) h))
-          ∙ ap (λ (x : List ℕ). textFrom f (t .run) (n + 1) x) (drop-drop (t .taken) a s)
-          ∙ ap (λ (k : ℕ). textFrom (m + (r .n - k)) (t .run) k (drop (a + t .taken) s)) (sym next)
+          ap (λ (g : ℕ). textFrom g run n a s) fuel
+          ∙ sym (more f run n a s some)
+          ∙ ap (λ (x : List ℕ). x ++ textFrom f (t .run) (n + 1) (a + t .taken) s) (no-text (t .line) (on-silent (t .line) (t .taken) h))
+          ∙ ap (λ (k : ℕ). textFrom (m + (r .n - k)) (t .run) k (a + t .taken) s) (sym next)
           ∙ q .text m;
     }
 
-silence : (f : ℕ) (run : Run) (n a : ℕ) (s : List ℕ) → n + f < 2 ^ 64 → a ≤ length s → Silent s run n a (reachedFrom U.Line f run n a s)
+silence : (f : ℕ) (run : Run) (n a : ℕ) (s : List ℕ) → n + length s < 2 ^ 64 + a → a ≤ length s → Silent s run n a (reachedFrom U.Line f run n a s)
 unfolding reachedFrom
 silence zero run n a s top h = at-once s run n a h
 silence (suc f) run n a s top h =
-    let t = turnOf run n (drop a s) in
-    let next : grown n ≡ n + 1 = omega arith in
+    let t = turnOf run n a s in
     let fits = taken-left run n a s t refl in
     by-case (goesOn U.Line (t .line) (t .taken))
-    (λ y. subst (Silent s run n a) (picked _ _ _ y) (one-more s run n a _ (omega arith) y (silence f (t .run) (grown n) (a + t .taken) s (omega arith) (omega arith))))
+    (λ y.
+    let some = on-takes U.Line (t .line) (t .taken) y in
+    let next : grown n ≡ n + 1 = omega arith in
+    subst (Silent s run n a) (picked _ _ _ y) (one-more s run n a _ (omega arith) y (silence f (t .run) (grown n) (a + t .taken) s (omega arith) (omega arith))))
     (λ y. subst (Silent s run n a) (passed _ _ _ y) (at-once s run n a h))
 
 -- ---- in a script, from field n on, which stands at `at`
-module _ (script : List ℕ) (run : Run) (n at : ℕ) (r : Reached) (eq : r ≡ reachedOf U.Line run n (drop at script)) (few : n ≤ at + 1) (in-s : at ≤ length script) (top : length script + 1 < 2 ^ 64) where
-  reached : Silent (drop at script) run n 0 r
-  reached =
-      let all : length (drop at script) ≡ length script - at = length-drop at script in
-      subst (Silent (drop at script) run n 0) (sym eq) (silence (length (drop at script)) run n 0 (drop at script) (omega arith) (omega arith))
+module _ (script : List ℕ) (run : Run) (n at : ℕ) (r : Reached) (eq : r ≡ reachedOf U.Line run n at script) (few : n ≤ at + 1) (in-s : at ≤ length script) (top : length script + 1 < 2 ^ 64) where
+  reached : Silent script run n at r
+  reached = subst (Silent script run n at) (sym eq) (silence (length script) run n at script (omega arith) in-s)
 
   pub before-line : Run
   before-line = reached .before
 
-  place : drop (r .at) (drop at script) ≡ drop (at + r .at) script
-  place = drop-drop (r .at) at script
-
-  pub line-turn : r .turn ≡ turnOf before-line (r .n) (drop (at + r .at) script)
+  pub line-turn : r .turn ≡ turnOf before-line (r .n) (r .at) script
   unfolding before-line
-  line-turn = reached .is ∙ ap (turnOf before-line (r .n)) place
+  line-turn = reached .is
 
   pub line-low : n ≤ r .n
   line-low = reached .low
 
-  pub line-few : r .n ≤ at + r .at + 1
+  pub line-few : r .n ≤ r .at + 1
   line-few = let q = reached .few in omega arith
 
-  pub line-within : at + r .at ≤ length script
-  line-within =
-      let all : length (drop at script) ≡ length script - at = length-drop at script in
-      let q = reached .within in
-      omega arith
+  pub line-after : at ≤ r .at
+  line-after = reached .after
+
+  pub line-within : r .at ≤ length script
+  line-within = reached .within
 
   -- the text that is left is that from the line on
-  pub line-goes : (o₀ : List ℕ) (w₀ : ℕ) (whole out : List ℕ) (w : ℕ) → Goes script o₀ w₀ whole out run n at w → Goes script o₀ w₀ whole out before-line (r .n) (at + r .at) w
+  pub line-goes : (o₀ : List ℕ) (w₀ : ℕ) (whole out : List ℕ) (w : ℕ) → Goes script o₀ w₀ whole out run n at w → Goes script o₀ w₀ whole out before-line (r .n) (r .at) w
   unfolding before-line
   line-goes o₀ w₀ whole out w g p q put =
       let low = line-low in
@@ -135,6 +130,6 @@ module _ (script : List ℕ) (run : Run) (n at : ℕ) (r : Reached) (eq : r ≡ 
       let fits = line-within in
       let m : ℕ = length script + 2 - r .n in
       let fuel : m + (r .n - n) ≡ length script + 2 - n = omega arith in
-      let same : textFrom (length script + 2 - n) run n (drop at script) ≡ textFrom m before-line (r .n) (drop (at + r .at) script) =
-      ap (λ (f : ℕ). textFrom f run n (drop at script)) (sym fuel) ∙ reached .text m ∙ ap (textFrom m before-line (r .n)) place in
+      let same : textFrom (length script + 2 - n) run n at script ≡ textFrom m before-line (r .n) (r .at) script =
+      ap (λ (f : ℕ). textFrom f run n at script) (sym fuel) ∙ reached .text m in
       g p q (subst (Put out p w q) (sym same) put)

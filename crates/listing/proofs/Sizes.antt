@@ -1,8 +1,8 @@
 -- How long a listing can be.
-use Prim.Native.Nat.{ℕ, zero, suc, _+_, _*_, _≤_}
+use Prim.Native.Nat.{ℕ, zero, suc, _+_, _-_, _*_, _≤_}
 use mathlib.Core.List.{List}
 use native.Mathlib.Omega.{arith}
-use lib.ListN.{length, drop, length-append, length-drop}
+use lib.ListN.{length, length-append}
 use lib.Dec.{eqb, leb}
 use borrow.Author.Tests.{eqb-false}
 use Rattle.sequences.specs.Pick.{by-case}
@@ -18,19 +18,19 @@ use Rattle.listing.specs.Printed.{linesOf, printed}
 use Rattle.listing.specs.Listed.{roomFor}
 
 -- a field of three bytes or more has a line of at most 204, and one line more may end the run
-from-size : (f : ℕ) (run : Run) (n : ℕ) (s : List ℕ) → length (textAll (linesOf (turnsFrom f run n s))) ≤ 68 * length s + 204
+from-size : (f : ℕ) (run : Run) (n at : ℕ) (s : List ℕ) → length (textAll (linesOf (turnsFrom f run n at s))) ≤ 68 * (length s - at) + 204
 unfolding turnsFrom
-from-size zero run n s = omega arith
-from-size (suc f) run n s =
-    let t = turnOf run n s in
+from-size zero run n at s = omega arith
+from-size (suc f) run n at s =
+    let t = turnOf run n at s in
     by-case (eqb (t .taken) 0)
     (λ y. rw (y, length-append) (omega (arith, line-size (t .line))))
     (λ y.
     rw (y, length-append)
-    (omega (arith, line-size (t .line), turn-taken run n s, turn-three run n s (eqb-false (t .taken) 0 y), length-drop (t .taken) s, from-size f (t .run) (n + 1) (drop (t .taken) s))))
+    (omega (arith, line-size (t .line), turn-taken run n at s, turn-three run n at s (eqb-false (t .taken) 0 y), from-size f (t .run) (n + 1) (at + t .taken) s)))
 
 pub size : (s : List ℕ) → length (printed s) ≤ roomFor (length s)
 unfolding printed
 size s =
-    by-case (leb (length s) 60000) (λ y. rw y (from-size (length s + 1) fresh 1 s))
-    (λ y. rw (y, length-append) (omega (arith, line-size (L.Bad 0 Script))))
+    by-case (leb (length s) 60000) (λ y. rw y (omega (arith, from-size (length s + 1) fresh 1 0 s)))
+    (λ y. rw (y, length-append) (omega (arith, line-size (L.Bad 0 Script 0))))

@@ -15,12 +15,12 @@ use Rattle.listing.specs.declared.turns.Turn.{Turn}
 use Rattle.listing.specs.declared.ending.Ended.{Ended}
 use Rattle.listing.specs.Last.{lastTurn}
 
--- 8 to 11, or 1 in field 1
+-- the reader's number, or 1 in field 1
 abbrev pub badOf : Line → Answer
 badOf L.Nothing = Taken
 badOf (L.Frame n v) = Taken
 badOf (L.Refused n r) = Taken
-badOf (L.Bad n r) = Refused r
+badOf (L.Bad n r p) = Refused r
 badOf (L.End n) = Taken
 
 abbrev pub ranTo : Run → Answer → Ended

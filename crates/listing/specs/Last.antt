@@ -12,4 +12,4 @@ lastOf t (u ∷ us) = lastOf u us
 
 -- a script has one turn at least
 unfoldable pub lastTurn : List ℕ → Turn
-lastTurn s = lastOf (turnOf fresh 1 s) (turnsOf s)
+lastTurn s = lastOf (turnOf fresh 1 0 s) (turnsOf s)

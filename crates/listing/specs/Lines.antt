@@ -24,7 +24,14 @@ framePieces n v = (ascii "frame " ∷ dec n ∷ []) ++ timesPieces v ++ countsPi
 
 -- `field N`, a word and the refusal's number
 unfoldable pub fieldPieces : ℕ → List ℕ → Refusal → List (List ℕ)
-fieldPieces n word r = ascii "field " ∷ dec n ∷ word ∷ dec (numberOf r) ∷ ascii "\n" ∷ []
+fieldPieces n word r = ascii "field " ∷ dec n ∷ word ∷ dec (numberOf r) ∷ []
+
+unfoldable pub refusedPieces : ℕ → Refusal → List (List ℕ)
+refusedPieces n r = fieldPieces n (ascii " refused ") r ++ (ascii "\n" ∷ [])
+
+-- with the byte place where the script is broken
+unfoldable pub badPieces : ℕ → Refusal → ℕ → List (List ℕ)
+badPieces n r place = fieldPieces n (ascii " bad ") r ++ (ascii " at " ∷ dec place ∷ ascii "\n" ∷ [])
 
 unfoldable pub endPieces : ℕ → List (List ℕ)
 endPieces n = ascii "end " ∷ dec n ∷ ascii "\n" ∷ []
@@ -32,8 +39,8 @@ endPieces n = ascii "end " ∷ dec n ∷ ascii "\n" ∷ []
 abbrev pub piecesOf : Line → List (List ℕ)
 piecesOf L.Nothing = []
 piecesOf (L.Frame n v) = framePieces n v
-piecesOf (L.Refused n r) = fieldPieces n (ascii " refused ") r
-piecesOf (L.Bad n r) = fieldPieces n (ascii " bad ") r
+piecesOf (L.Refused n r) = refusedPieces n r
+piecesOf (L.Bad n r p) = badPieces n r p
 piecesOf (L.End n) = endPieces n
 
 abbrev pub textOf : Line → List ℕ

@@ -15,13 +15,13 @@ use Rattle.listing.specs.Turns.{turnsFrom, turnsOf}
 abbrev pub linesOf : List Turn → List Line
 linesOf ts = map (λ (t : Turn). t .line) ts
 
--- the text of the turns from field n on
-abbrev pub textFrom : ℕ → Run → ℕ → List ℕ → List ℕ
-textFrom f run n s = textAll (linesOf (turnsFrom f run n s))
+-- the text of the turns from field n on, which stands at `at`
+abbrev pub textFrom : ℕ → Run → ℕ → ℕ → List ℕ → List ℕ
+textFrom f run n at s = textAll (linesOf (turnsFrom f run n at s))
 
 -- a script of lawful size prints the lines of its turns; a longer one is not run
 abbrev pub lines : List ℕ → List Line
-lines s = cond (leb (length s) 60000) (linesOf (turnsOf s)) (L.Bad 0 Script ∷ [])
+lines s = cond (leb (length s) 60000) (linesOf (turnsOf s)) (L.Bad 0 Script 0 ∷ [])
 
 unfoldable pub printed : List ℕ → List ℕ
 printed s = textAll (lines s)

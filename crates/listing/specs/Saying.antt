@@ -12,10 +12,10 @@ use Rattle.listing.specs.declared.turns.Said.{Said}
 abbrev pub saysOf : Line → ℕ → Said
 saysOf line k = record { line = line; taken = k }
 
-abbrev pub refusalSaid : Bool → ℕ → ℕ → Refusal → Said
-refusalSaid first n k r = cond first (saysOf (L.Bad n r) 0) (saysOf (L.Refused n r) k)
+abbrev pub refusalSaid : Bool → ℕ → ℕ → ℕ → Refusal → Said
+refusalSaid first n at k r = cond first (saysOf (L.Bad n r at) 0) (saysOf (L.Refused n r) k)
 
-unfoldable pub saidOf : ℕ → ℕ → Reply → Said
-saidOf n k R.Quiet = saysOf L.Nothing k
-saidOf n k (R.Refused r) = refusalSaid (eqb n 1) n k r
-saidOf n k (R.Framed v) = saysOf (L.Frame n v) k
+unfoldable pub saidOf : ℕ → ℕ → ℕ → Reply → Said
+saidOf n at k R.Quiet = saysOf L.Nothing k
+saidOf n at k (R.Refused r) = refusalSaid (eqb n 1) n at k r
+saidOf n at k (R.Framed v) = saysOf (L.Frame n v) k

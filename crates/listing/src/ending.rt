@@ -27,7 +27,7 @@ pub fn bad_of(line: Line) -> Answer
     ensures { λ r. ⌜ r ≡ badOf line ⌝ }
 {
     match line {
-        Line::Bad(_, refusal) => Answer::Refused(refusal),
+        Line::Bad(_, refusal, _) => Answer::Refused(refusal),
         Line::Nothing => Answer::Taken,
         Line::Frame(_, _) => Answer::Taken,
         Line::Refused(_, _) => Answer::Taken,

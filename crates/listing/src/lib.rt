@@ -2,7 +2,7 @@
 // into a lent buffer; and what a script ends with.
 ghost use mathlib.Core.Path.{_≡_};
 ghost use Prim.Native.Nat.{_+_, _-_, _<_, _≤_};
-ghost use lib.ListN.{length, drop};
+ghost use lib.ListN.{length};
 ghost use Rattle.text.specs.Put.{Put};
 ghost use Rattle.listing.specs.Printed.{textFrom, printed};
 ghost use Rattle.listing.specs.Listed.{roomFor, listedOf, leftIn};
@@ -32,14 +32,14 @@ pub enum Listed {
 // nothing are gone through in one place; the run is handed on from line to line.
 fn list_fields(run: Run, n: u64, at: usize, w: usize, script: &[u8], out: &mut [u8]) -> usize
     requires { ⌜ (at ≤ length (now script)) × (0 < n) × (n ≤ at + 1) ⌝ }
-    ensures { λ r. ⌜ Put (now (out .entry)) (now (out .exit)) w r (textFrom (length (now (script .entry)) + 2 - n) run n (drop at (now (script .entry)))) ⌝ }
+    ensures { λ r. ⌜ Put (now (out .entry)) (now (out .exit)) w r (textFrom (length (now (script .entry)) + 2 - n) run n at (now (script .entry))) ⌝ }
 {
     let mut run = run;
     let mut n = n;
     let mut at = at;
     let mut w = w;
     loop {
-        let reached = next_line(run, n, &script[at..]);
+        let reached = next_line(run, n, at, script);
         let turn = reached.turn;
         let line = turn.line;
         w = lines::put_line(out, w, line);
@@ -49,7 +49,7 @@ fn list_fields(run: Run, n: u64, at: usize, w: usize, script: &[u8], out: &mut [
         }
         let next = turn.run;
         run = next;
-        at = at + reached.at + k;
+        at = reached.at + k;
         n = reached.n + 1;
     }
 }
@@ -60,7 +60,7 @@ fn listing(script: &[u8], out: &mut [u8]) -> usize
     if script.len() <= script::MAX_SCRIPT_BYTES {
         list_fields(script_steps::fresh(), 1, 0, 0, script, out)
     } else {
-        lines::put_line(out, 0, Line::Bad(0, Refusal::Script))
+        lines::put_line(out, 0, Line::Bad(0, Refusal::Script, 0))
     }
 }
 

@@ -1,7 +1,7 @@
 // What a script prints: a line by its values, and its text into a lent buffer.
 ghost use mathlib.Core.Path.{_≡_};
 ghost use Rattle.text.specs.Put.{placeAfter, bufferAfter};
-ghost use Rattle.listing.specs.Lines.{timesPieces, countsPieces, marksPieces, framePieces, fieldPieces, endPieces, piecesOf};
+ghost use Rattle.listing.specs.Lines.{timesPieces, countsPieces, marksPieces, framePieces, fieldPieces, refusedPieces, badPieces, endPieces, piecesOf};
 use refusals::Refusal;
 use script_steps::Values;
 use text::put;
@@ -9,12 +9,13 @@ use text::put_dec;
 use text::put_hex32;
 use text::put_hex64;
 
-// The number of the field, and what its line says; the last line has the count of fields.
+// The number of the field, and what its line says; a bad one has the byte place where the script is
+// broken, and the last line has the count of fields.
 pub enum Line {
     Nothing,
     Frame(u64, Values),
     Refused(u64, Refusal),
-    Bad(u64, Refusal),
+    Bad(u64, Refusal, usize),
     End(u64),
 }
 
@@ -66,7 +67,22 @@ fn put_field(out: &mut [u8], at: usize, n: u64, word: &[u8], refusal: Refusal) -
     let a = put(out, at, b"field ");
     let a = put_dec(out, a, n);
     let a = put(out, a, word);
-    let a = put_dec(out, a, refusals::number(refusal));
+    put_dec(out, a, refusals::number(refusal))
+}
+
+fn put_refused(out: &mut [u8], at: usize, n: u64, refusal: Refusal) -> usize
+    ensures { λ r. ⌜ (r ≡ placeAfter (now (out .entry)) at (refusedPieces n refusal)) × (now (out .exit) ≡ bufferAfter (now (out .entry)) at (refusedPieces n refusal)) ⌝ }
+{
+    let a = put_field(out, at, n, b" refused ", refusal);
+    put(out, a, b"\n")
+}
+
+fn put_bad(out: &mut [u8], at: usize, n: u64, refusal: Refusal, place: usize) -> usize
+    ensures { λ r. ⌜ (r ≡ placeAfter (now (out .entry)) at (badPieces n refusal place)) × (now (out .exit) ≡ bufferAfter (now (out .entry)) at (badPieces n refusal place)) ⌝ }
+{
+    let a = put_field(out, at, n, b" bad ", refusal);
+    let a = put(out, a, b" at ");
+    let a = put_dec(out, a, place as u64);
     put(out, a, b"\n")
 }
 
@@ -84,8 +100,8 @@ pub fn put_line(out: &mut [u8], at: usize, line: Line) -> usize
     match line {
         Line::Nothing => at,
         Line::Frame(n, v) => put_frame(out, at, n, v),
-        Line::Refused(n, refusal) => put_field(out, at, n, b" refused ", refusal),
-        Line::Bad(n, refusal) => put_field(out, at, n, b" bad ", refusal),
+        Line::Refused(n, refusal) => put_refused(out, at, n, refusal),
+        Line::Bad(n, refusal, place) => put_bad(out, at, n, refusal, place),
         Line::End(n) => put_end(out, at, n),
     }
 }

@@ -1,13 +1,15 @@
 // The turns of a script: each field goes to the engine, and has a line.
 ghost use mathlib.Core.Path.{_≡_};
-ghost use Prim.Native.Nat.{_-_};
-ghost use Rattle.listing.specs.Turns.{toldOf, turnOf};
+ghost use Prim.Native.Nat.{_-_, _≤_};
+ghost use lib.ListN.{length};
+ghost use Rattle.listing.specs.Turns.{toldOf, badPlace, turnOf};
 ghost use Rattle.listing.specs.Last.{lastTurn};
-ghost use Rattle.listing.specs.Reaching.{isSilent, isFrameless, goesOn, reachedAt, reachedOf};
+ghost use Rattle.listing.specs.Reaching.{isSilent, isFrameless, goesOn, reachedAt, insideOf, reachedOf};
 ghost use Rattle.listing.specs.declared.turns.Until.the-variants as Until;
 ghost use Rattle.listing.specs.Saying.{saysOf, saidOf};
 use crate::lines::Line;
 use refusals::Answer;
+use refusals::Refusal;
 use script::Field;
 use script::Read;
 use script_steps::Reply;
@@ -56,14 +58,14 @@ fn says(line: Line, taken: usize) -> Said
 }
 
 // A refusal in field 1 is the rate's, and stops the run.
-fn replied(n: u64, k: usize, reply: Reply) -> Said
-    ensures { λ r. ⌜ r ≡ saidOf n k reply ⌝ }
+fn replied(n: u64, at: usize, k: usize, reply: Reply) -> Said
+    ensures { λ r. ⌜ r ≡ saidOf n at k reply ⌝ }
 {
     match reply {
         Reply::Quiet => says(Line::Nothing, k),
         Reply::Refused(refusal) => {
             if n == 1 {
-                says(Line::Bad(n, refusal), 0)
+                says(Line::Bad(n, refusal, at), 0)
             } else {
                 says(Line::Refused(n, refusal), k)
             }
@@ -79,6 +81,18 @@ fn before(n: u64) -> u64
     if n == 0 { 0 } else { n - 1 }
 }
 
+// Where the reader's refusal of a field is told to be: at the field's tag, or at the end of the script
+// where the header is cut.
+fn bad_place(refusal: Refusal, at: usize, script: &[u8]) -> usize
+    ensures { λ r. ⌜ r ≡ badPlace refusal at (now (script .entry)) ⌝ }
+{
+    if refusals::number(refusal) == refusals::number(Refusal::HeaderCut) {
+        script.len()
+    } else {
+        at
+    }
+}
+
 // Whether a line prints nothing.
 fn silent(line: Line) -> bool
     ensures { λ r. ⌜ r ≡ isSilent line ⌝ }
@@ -87,7 +101,7 @@ fn silent(line: Line) -> bool
         Line::Nothing => true,
         Line::Frame(_, _) => false,
         Line::Refused(_, _) => false,
-        Line::Bad(_, _) => false,
+        Line::Bad(_, _, _) => false,
         Line::End(_) => false,
     }
 }
@@ -100,7 +114,7 @@ fn frameless(line: Line) -> bool
         Line::Nothing => true,
         Line::Frame(_, _) => false,
         Line::Refused(_, _) => true,
-        Line::Bad(_, _) => true,
+        Line::Bad(_, _, _) => true,
         Line::End(_) => true,
     }
 }
@@ -126,18 +140,26 @@ fn reach(turn: Turn, n: u64, at: usize) -> Reached
     Reached { turn, n, at }
 }
 
-// Field n stands at the start of s. One turn after the other, as far as is asked for. The engine and
-// the frame stand here alone, and each call's answer is stored where they stand: handed through a
-// function for each field they would be copied for each.
-fn take_turns(until: Until, run: Run, n: u64, s: &[u8]) -> Reached
-    ensures { λ r. ⌜ r ≡ reachedOf until run n (now (s .entry)) ⌝ }
+// A place behind the script's end, where nothing is left of it, is its end.
+fn inside(at: usize, script: &[u8]) -> usize
+    ensures { λ r. ⌜ r ≡ insideOf at (now (script .entry)) ⌝ }
+{
+    if at < script.len() { at } else { script.len() }
+}
+
+// Field n stands at `at`. One turn after the other, as far as is asked for. The engine and the frame
+// stand here alone, and each call's answer is stored where they stand: handed through a function for
+// each field they would be copied for each.
+fn take_turns(until: Until, run: Run, n: u64, at: usize, script: &[u8]) -> Reached
+    requires { ⌜ at ≤ length (now script) ⌝ }
+    ensures { λ r. ⌜ r ≡ reachedOf until run n at (now (script .entry)) ⌝ }
 {
     let mut engine = run.engine;
     let mut frame = run.frame;
     let mut n = n;
-    let mut at: usize = 0;
+    let mut at = at;
     loop {
-        let read = script::read_field(&s[at..], n == 1);
+        let read = script::read_field(&script[at..], n == 1);
         match read {
             Read::Field(field, k) => {
                 let mut reply = Reply::Quiet;
@@ -224,7 +246,7 @@ fn take_turns(until: Until, run: Run, n: u64, s: &[u8]) -> Reached
                         reply = script_steps::fired(outcome);
                     }
                 }
-                let said = replied(n, k, reply);
+                let said = replied(n, at, k, reply);
                 let line = said.line;
                 let taken = said.taken;
                 if goes_on(until, line, taken) {
@@ -237,7 +259,8 @@ fn take_turns(until: Until, run: Run, n: u64, s: &[u8]) -> Reached
             }
             Read::Bad(refusal) => {
                 let run = Run { engine, frame };
-                return reach(told(run, Line::Bad(n, refusal), 0), n, at);
+                let place = bad_place(refusal, at, script);
+                return reach(told(run, Line::Bad(n, refusal, place), 0), n, at);
             }
             Read::End => {
                 let run = Run { engine, frame };
@@ -247,33 +270,36 @@ fn take_turns(until: Until, run: Run, n: u64, s: &[u8]) -> Reached
     }
 }
 
-// Field n stands at the start of s.
-pub fn one_turn(run: Run, n: u64, s: &[u8]) -> Turn
-    ensures { λ r. ⌜ r ≡ turnOf run n (now (s .entry)) ⌝ }
+// Field n stands at `at`; behind the script's end nothing stands.
+pub fn one_turn(run: Run, n: u64, at: usize, script: &[u8]) -> Turn
+    ensures { λ r. ⌜ r ≡ turnOf run n (insideOf at (now (script .entry))) (now (script .entry)) ⌝ }
 {
-    let reached = take_turns(Until::Field, run, n, s);
+    let at = inside(at, script);
+    let reached = take_turns(Until::Field, run, n, at, script);
     reached.turn
 }
 
 // The first turn from field n on that has a line, and where its field stands.
-pub fn next_line(run: Run, n: u64, s: &[u8]) -> Reached
-    ensures { λ r. ⌜ r ≡ reachedOf Until.Line run n (now (s .entry)) ⌝ }
+pub fn next_line(run: Run, n: u64, at: usize, script: &[u8]) -> Reached
+    requires { ⌜ at ≤ length (now script) ⌝ }
+    ensures { λ r. ⌜ r ≡ reachedOf Until.Line run n at (now (script .entry)) ⌝ }
 {
-    take_turns(Until::Line, run, n, s)
+    take_turns(Until::Line, run, n, at, script)
 }
 
 // The first turn from field n on that has an accepted frame, or ends the run, and where its field
 // stands.
-pub fn next_frame(run: Run, n: u64, s: &[u8]) -> Reached
-    ensures { λ r. ⌜ r ≡ reachedOf Until.Frame run n (now (s .entry)) ⌝ }
+pub fn next_frame(run: Run, n: u64, at: usize, script: &[u8]) -> Reached
+    ensures { λ r. ⌜ r ≡ reachedOf Until.Frame run n (insideOf at (now (script .entry))) (now (script .entry)) ⌝ }
 {
-    take_turns(Until::Frame, run, n, s)
+    let at = inside(at, script);
+    take_turns(Until::Frame, run, n, at, script)
 }
 
 // The turn that ends a script.
 pub fn last_turn(script: &[u8]) -> Turn
     ensures { λ r. ⌜ r ≡ lastTurn (now (script .entry)) ⌝ }
 {
-    let reached = take_turns(Until::End, script_steps::fresh(), 1, script);
+    let reached = take_turns(Until::End, script_steps::fresh(), 1, 0, script);
     reached.turn
 }

@@ -1,11 +1,11 @@
 -- Each record moves a walk on, so that a walk ends.
-use Prim.Native.Nat.{ℕ, _-_, _≤_, _<_}
+use Prim.Native.Nat.{ℕ, _≤_, _<_}
 use mathlib.Core.Path.{_≡_, refl, sym, ap, _∙_, subst}
 use mathlib.Core.Bool.{Bool, true, false, false≢true}
 use mathlib.Core.List.{List, []}
 use native.Mathlib.Omega.{arith}
 use lib.Ieee.{Float, nan}
-use lib.ListN.{length, drop}
+use lib.ListN.{length}
 use Rattle.listing.specs.declared.lines.Line.{Line}
 use Rattle.listing.specs.declared.lines.Line.the-variants as L
 use Rattle.listing.specs.declared.turns.Reached.{Reached}
@@ -37,16 +37,17 @@ module _ (walk : Walk) (script : List ℕ) (inside : walk .at ≤ length script)
   r = reachOf walk script
 
   abbrev step-at : Line → Step
-  step-at l = stepBy (walkAfter walk r) (r .turn .run .frame) l depth logs scratch out at .0
+  step-at l = stepBy (walkAfter r) (r .turn .run .frame) l depth logs scratch out at .0
 
-  frame-moves : isFrameless (r .turn .line) ≡ false → (walk .at < walkAfter walk r .at) × (walkAfter walk r .at ≤ length script)
+  frame-moves : isFrameless (r .turn .line) ≡ false → (walk .at < walkAfter r .at) × (walkAfter r .at ≤ length script)
   unfolding r
   frame-moves h =
       let p = reached walk script (reachOf walk script) refl nan [] in
       let t-is = p .is in
       let fits = reach-fits walk script (reachOf walk script) refl in
+      let onward = p .after in
       let some : reachOf walk script .turn .taken ≡ 0 → ⊥ = λ z.
-      frame-takes (p .before) (reachOf walk script .n) (drop (reachOf walk script .at) (drop (walk .at) script)) (ap (λ (x : Turn). isFrameless (x .line)) (sym t-is) ∙ h)
+      frame-takes (p .before) (reachOf walk script .n) (reachOf walk script .at) script (ap (λ (x : Turn). isFrameless (x .line)) (sym t-is) ∙ h)
       (ap (λ (x : Turn). x .taken) (sym t-is) ∙ z) in
       (omega arith, omega arith)
 
@@ -54,7 +55,7 @@ module _ (walk : Walk) (script : List ℕ) (inside : walk .at ≤ length script)
   by-line (L.Frame n v) e h = frame-moves (ap isFrameless e)
   by-line L.Nothing e h = absurd (last-not L.Nothing after h)
   by-line (L.Refused n k) e h = absurd (last-not (L.Refused n k) after h)
-  by-line (L.Bad n k) e h = absurd (last-not (L.Bad n k) after h)
+  by-line (L.Bad n k p) e h = absurd (last-not (L.Bad n k p) after h)
   by-line (L.End n) e h = absurd (last-not (L.End n) after h)
 
   pub record-moves : (s : Step) (x : List Float) (y : List ℕ) → (s, x, y) ≡ walkStep walk script depth logs scratch out at → s .made ≡ M.Record after → (walk .at < s .walk .at) × (s .walk .at ≤ length script)

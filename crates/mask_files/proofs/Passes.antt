@@ -31,7 +31,7 @@ start-stands script = record { inside = omega arith; some = omega arith; few = o
 
 start-left : (depth : Float) (logs : List Float) (script : List ℕ) → leftOf depth logs script walkStart ≡ wholeOf depth logs script
 unfolding walkStart
-start-left depth logs script = let fuel : length script + 2 - 1 ≡ length script + 1 = omega arith in ap (λ (f : ℕ). filedFrom depth logs f fresh 1 script) fuel
+start-left depth logs script = let fuel : length script + 2 - 1 ≡ length script + 1 = omega arith in ap (λ (f : ℕ). filedFrom depth logs f fresh 1 0 script) fuel
 
 -- ---- the first pass
 pub record Measuring (depth : Float) (logs : List Float) (script : List ℕ) (walk : Walk) (bytes : ℕ) : Type 0 where

@@ -7,7 +7,6 @@ use native.Mathlib.Omega.{arith}
 use lib.Dec.{eqb}
 use lib.Ieee.{Float}
 use lib.ListN.{length, drop}
-use lib.Seq.{drop-drop}
 use borrow.Author.Tests.{eq-eqb, ne-eqb, eqb-true}
 use Rattle.sequences.specs.Pick.{picked, passed, by-case}
 use Rattle.refusals.specs.declared.Answer.{Answer}
@@ -27,15 +26,15 @@ use Rattle.listing.specs.declared.lines.Line.{Line}
 use Rattle.listing.specs.declared.lines.Line.the-variants as L
 use Rattle.listing.specs.declared.turns.Reached.{Reached}
 use Rattle.listing.specs.declared.turns.Until.the-variants as U
-use Rattle.listing.specs.Turns.{refusalOf, repliedOf, afterOf, turnOf, turnsFrom}
+use Rattle.listing.specs.Turns.{refusalOf, repliedOf, badPlace, afterOf, turnOf, turnsFrom}
 use Rattle.listing.specs.Reaching.{isFrameless, goesOn, reachedAt, reachedFrom}
 use Rattle.listing.proofs.Going.{on-takes, none-ends}
 use Rattle.listing.proofs.TurnLaws.{taken-left}
 use Rattle.mask_files.specs.Records.{filedBy, filedOf}
 
--- the file of the turns from field n on
-abbrev pub filedFrom : Float → List Float → ℕ → Run → ℕ → List ℕ → List ℕ × Answer
-filedFrom depth logs f run n s = filedOf depth logs (turnsFrom f run n s)
+-- the file of the turns from field n on, which stands at `at`
+abbrev pub filedFrom : Float → List Float → ℕ → Run → ℕ → ℕ → List ℕ → List ℕ × Answer
+filedFrom depth logs f run n at s = filedOf depth logs (turnsFrom f run n at s)
 
 -- ---- which lines a walk passes by
 frame-ends : (line : Line) (k : ℕ) → isFrameless line ≡ false → goesOn U.Frame line k ≡ false
@@ -48,71 +47,71 @@ unfolding goesOn
 last-takes-none line k h y = by-case (eqb k 0) (λ z. eqb-true k 0 z) (λ z. absurd (false≢true (sym h ∙ sym (passed (eqb k 0) false (isFrameless line) z) ∙ y)))
 
 -- a frame's field takes bytes
-refusal-frame : (b : Bool) (run : Run) (n k : ℕ) (r : Refusal) → isFrameless (refusalOf b run n k r .line) ≡ true
-refusal-frame true run n k r = refl
-refusal-frame false run n k r = refl
+refusal-frame : (b : Bool) (run : Run) (n at k : ℕ) (r : Refusal) → isFrameless (refusalOf b run n at k r .line) ≡ true
+refusal-frame true run n at k r = refl
+refusal-frame false run n at k r = refl
 
-reply-frame : (n k : ℕ) (run : Run) (a : Reply) → isFrameless (repliedOf n k run a .line) ≡ false → repliedOf n k run a .taken ≡ k
-reply-frame n k run R.Quiet h = absurd (false≢true (sym h))
-reply-frame n k run (R.Refused r) h = absurd (false≢true (sym h ∙ refusal-frame (eqb n 1) run n k r))
-reply-frame n k run (R.Framed v) h = refl
+reply-frame : (n at k : ℕ) (run : Run) (a : Reply) → isFrameless (repliedOf n at k run a .line) ≡ false → repliedOf n at k run a .taken ≡ k
+reply-frame n at k run R.Quiet h = absurd (false≢true (sym h))
+reply-frame n at k run (R.Refused r) h = absurd (false≢true (sym h ∙ refusal-frame (eqb n 1) run n at k r))
+reply-frame n at k run (R.Framed v) h = refl
 
-read-frame : (run : Run) (n : ℕ) (r : Read) (m : ℕ) → Read-takes.Taken r m → isFrameless (afterOf run n r .line) ≡ false → afterOf run n r .taken ≡ 0 → ⊥
-read-frame run n (S.Field f k) m (Read-takes.field lo hi) h z = let e = reply-frame n k (stepOf run f .run) (stepOf run f .reply) h in omega arith
-read-frame run n (S.Bad r) m Read-takes.bad h z = false≢true (sym h)
-read-frame run n S.End m Read-takes.end h z = false≢true (sym h)
+read-frame : (run : Run) (n at : ℕ) (s : List ℕ) (r : Read) (m : ℕ) → Read-takes.Taken r m → isFrameless (afterOf run n at s r .line) ≡ false → afterOf run n at s r .taken ≡ 0 → ⊥
+read-frame run n at s (S.Field f k) m (Read-takes.field lo hi) h z = let e = reply-frame n at k (stepOf run f .run) (stepOf run f .reply) h in omega arith
+read-frame run n at s (S.Bad r) m Read-takes.bad h z = false≢true (sym h)
+read-frame run n at s S.End m Read-takes.end h z = false≢true (sym h)
 
-pub frame-takes : (run : Run) (n : ℕ) (s : List ℕ) → isFrameless (turnOf run n s .line) ≡ false → turnOf run n s .taken ≡ 0 → ⊥
+pub frame-takes : (run : Run) (n at : ℕ) (s : List ℕ) → isFrameless (turnOf run n at s .line) ≡ false → turnOf run n at s .taken ≡ 0 → ⊥
 unfolding turnOf
-frame-takes run n s = read-frame run n (readOf s (eqb n 1)) (length s) (Read-takes.taken s (eqb n 1))
+frame-takes run n at s = read-frame run n at s (readOf (drop at s) (eqb n 1)) (length (drop at s)) (Read-takes.taken (drop at s) (eqb n 1))
 
 module _ (depth : Float) (logs : List Float) where
   -- what is passed by adds nothing
   module _ (f : Frame) (rest : List ℕ × Answer) where
-    refusal-adds : (b : Bool) (run : Run) (n k : ℕ) (r : Refusal) → goesOn U.Frame (refusalOf b run n k r .line) (refusalOf b run n k r .taken) ≡ true
-        → filedBy depth logs f (refusalOf b run n k r .line) rest ≡ rest
-    refusal-adds true run n k r h = absurd (false≢true (sym (none-ends U.Frame (L.Bad n r)) ∙ h))
-    refusal-adds false run n k r h = refl
+    refusal-adds : (b : Bool) (run : Run) (n at k : ℕ) (r : Refusal) → goesOn U.Frame (refusalOf b run n at k r .line) (refusalOf b run n at k r .taken) ≡ true
+        → filedBy depth logs f (refusalOf b run n at k r .line) rest ≡ rest
+    refusal-adds true run n at k r h = absurd (false≢true (sym (none-ends U.Frame (L.Bad n r at)) ∙ h))
+    refusal-adds false run n at k r h = refl
 
-    reply-adds : (n k : ℕ) (run : Run) (a : Reply) → goesOn U.Frame (repliedOf n k run a .line) (repliedOf n k run a .taken) ≡ true → filedBy depth logs f (repliedOf n k run a .line) rest ≡ rest
-    reply-adds n k run R.Quiet h = refl
-    reply-adds n k run (R.Refused r) h = refusal-adds (eqb n 1) run n k r h
-    reply-adds n k run (R.Framed v) h = absurd (false≢true (sym (frame-ends (L.Frame n v) k refl) ∙ h))
+    reply-adds : (n at k : ℕ) (run : Run) (a : Reply) → goesOn U.Frame (repliedOf n at k run a .line) (repliedOf n at k run a .taken) ≡ true → filedBy depth logs f (repliedOf n at k run a .line) rest ≡ rest
+    reply-adds n at k run R.Quiet h = refl
+    reply-adds n at k run (R.Refused r) h = refusal-adds (eqb n 1) run n at k r h
+    reply-adds n at k run (R.Framed v) h = absurd (false≢true (sym (frame-ends (L.Frame n v) k refl) ∙ h))
 
-    read-adds : (run : Run) (n : ℕ) (r : Read) → goesOn U.Frame (afterOf run n r .line) (afterOf run n r .taken) ≡ true → filedBy depth logs f (afterOf run n r .line) rest ≡ rest
-    read-adds run n (S.Field x k) h = reply-adds n k (stepOf run x .run) (stepOf run x .reply) h
-    read-adds run n (S.Bad r) h = absurd (false≢true (sym (none-ends U.Frame (L.Bad n r)) ∙ h))
-    read-adds run n S.End h = refl
+    read-adds : (run : Run) (n at : ℕ) (s : List ℕ) (r : Read) → goesOn U.Frame (afterOf run n at s r .line) (afterOf run n at s r .taken) ≡ true → filedBy depth logs f (afterOf run n at s r .line) rest ≡ rest
+    read-adds run n at s (S.Field x k) h = reply-adds n at k (stepOf run x .run) (stepOf run x .reply) h
+    read-adds run n at s (S.Bad r) h = absurd (false≢true (sym (none-ends U.Frame (L.Bad n r (badPlace r at s))) ∙ h))
+    read-adds run n at s S.End h = refl
 
-    adds-nothing : (run : Run) (n : ℕ) (s : List ℕ) → goesOn U.Frame (turnOf run n s .line) (turnOf run n s .taken) ≡ true → filedBy depth logs f (turnOf run n s .line) rest ≡ rest
+    adds-nothing : (run : Run) (n at : ℕ) (s : List ℕ) → goesOn U.Frame (turnOf run n at s .line) (turnOf run n at s .taken) ≡ true → filedBy depth logs f (turnOf run n at s .line) rest ≡ rest
     unfolding turnOf
-    adds-nothing run n s h = read-adds run n (readOf s (eqb n 1)) h
+    adds-nothing run n at s h = read-adds run n at s (readOf (drop at s) (eqb n 1)) h
 
   -- ---- one turn, and what is left behind it
-  pub last-turn : (f : ℕ) (run : Run) (n : ℕ) (s : List ℕ) → turnOf run n s .taken ≡ 0 → filedFrom depth logs (suc f) run n s ≡ filedBy depth logs (turnOf run n s .run .frame) (turnOf run n s .line) ([], Taken)
+  pub last-turn : (f : ℕ) (run : Run) (n at : ℕ) (s : List ℕ) → turnOf run n at s .taken ≡ 0 → filedFrom depth logs (suc f) run n at s ≡ filedBy depth logs (turnOf run n at s .run .frame) (turnOf run n at s .line) ([], Taken)
   unfolding turnsFrom filedOf
-  last-turn f run n s h = rw (eq-eqb _ _ h)
+  last-turn f run n at s h = rw (eq-eqb _ _ h)
 
-  pub one-turn : (f : ℕ) (run : Run) (n : ℕ) (s : List ℕ) → (turnOf run n s .taken ≡ 0 → ⊥)
-      → filedFrom depth logs (suc f) run n s ≡ filedBy depth logs (turnOf run n s .run .frame) (turnOf run n s .line) (filedFrom depth logs f (turnOf run n s .run) (n + 1) (drop (turnOf run n s .taken) s))
+  pub one-turn : (f : ℕ) (run : Run) (n at : ℕ) (s : List ℕ) → (turnOf run n at s .taken ≡ 0 → ⊥)
+      → filedFrom depth logs (suc f) run n at s ≡ filedBy depth logs (turnOf run n at s .run .frame) (turnOf run n at s .line) (filedFrom depth logs f (turnOf run n at s .run) (n + 1) (at + turnOf run n at s .taken) s)
   unfolding turnsFrom filedOf
-  one-turn f run n s h = rw (ne-eqb _ _ h)
+  one-turn f run n at s h = rw (ne-eqb _ _ h)
 
 -- ---- up to the next frame
 -- from field n on, at place a of s, to the turn r: no record stands before it. The numbers count as far as there are any
 pub record Passed (depth : Float) (logs : List Float) (s : List ℕ) (run : Run) (n a : ℕ) (r : Reached) : Type 0 where
   pub before : Run
-  pub is : r .turn ≡ turnOf before (r .n) (drop (r .at) s)
+  pub is : r .turn ≡ turnOf before (r .n) (r .at) s
   pub ends : goesOn U.Frame (r .turn .line) (r .turn .taken) ≡ false
   pub after : a ≤ r .at
   pub within : r .at ≤ length s
   pub low : n + length s < 2 ^ 64 + a → n ≤ r .n
   pub few : n + length s < 2 ^ 64 + a → r .n + a ≤ n + r .at
-  pub files : n + length s < 2 ^ 64 + a → (m : ℕ) → filedFrom depth logs (m + (r .n - n)) run n (drop a s) ≡ filedFrom depth logs m before (r .n) (drop (r .at) s)
+  pub files : n + length s < 2 ^ 64 + a → (m : ℕ) → filedFrom depth logs (m + (r .n - n)) run n a s ≡ filedFrom depth logs m before (r .n) (r .at) s
 
 module _ (depth : Float) (logs : List Float) (s : List ℕ) where
-  at-once : (run : Run) (n a : ℕ) → a ≤ length s → goesOn U.Frame (turnOf run n (drop a s) .line) (turnOf run n (drop a s) .taken) ≡ false
-      → Passed depth logs s run n a (reachedAt (turnOf run n (drop a s)) n a)
+  at-once : (run : Run) (n a : ℕ) → a ≤ length s → goesOn U.Frame (turnOf run n a s .line) (turnOf run n a s .taken) ≡ false
+      → Passed depth logs s run n a (reachedAt (turnOf run n a s) n a)
   at-once run n a h e =
       record {
         before = run;
@@ -122,13 +121,13 @@ module _ (depth : Float) (logs : List Float) (s : List ℕ) where
         within = h;
         low = λ top. omega arith;
         few = λ top. omega arith;
-        files = λ top m. ap (λ (f : ℕ). filedFrom depth logs f run n (drop a s)) (omega arith);
+        files = λ top m. ap (λ (f : ℕ). filedFrom depth logs f run n a s) (omega arith);
       }
 
-  one-more : (run : Run) (n a : ℕ) (r : Reached) → a ≤ length s → goesOn U.Frame (turnOf run n (drop a s) .line) (turnOf run n (drop a s) .taken) ≡ true
-      → Passed depth logs s (turnOf run n (drop a s) .run) (grown n) (a + turnOf run n (drop a s) .taken) r → Passed depth logs s run n a r
-  one-more run n a r within h q =
-      let t = turnOf run n (drop a s) in
+  one-more : (run : Run) (n a : ℕ) (r : Reached) → goesOn U.Frame (turnOf run n a s .line) (turnOf run n a s .taken) ≡ true
+      → Passed depth logs s (turnOf run n a s .run) (grown n) (a + turnOf run n a s .taken) r → Passed depth logs s run n a r
+  one-more run n a r h q =
+      let t = turnOf run n a s in
       let some = on-takes U.Frame (t .line) (t .taken) h in
       let fits = taken-left run n a s t refl in
       let aft = q .after in
@@ -151,26 +150,25 @@ module _ (depth : Float) (logs : List Float) (s : List ℕ) where
             let low = q .low (omega arith) in
             let f : ℕ = m + (r .n - (n + 1)) in
             let fuel : m + (r .n - n) ≡ suc f = omega arith in
-            ap (λ (g : ℕ). filedFrom depth logs g run n (drop a s)) fuel
-            ∙ one-turn depth logs f run n (drop a s) some
-            ∙ adds-nothing depth logs (t .run .frame) (filedFrom depth logs f (t .run) (n + 1) (drop (t .taken) (drop a s))) run n (drop a s) h
-            ∙ ap (λ (x : List ℕ). filedFrom depth logs f (t .run) (n + 1) x) (drop-drop (t .taken) a s)
-            ∙ ap (λ (k : ℕ). filedFrom depth logs (m + (r .n - k)) (t .run) k (drop (a + t .taken) s)) (sym next)
+            ap (λ (g : ℕ). filedFrom depth logs g run n a s) fuel
+            ∙ one-turn depth logs f run n a s some
+            ∙ adds-nothing depth logs (t .run .frame) (filedFrom depth logs f (t .run) (n + 1) (a + t .taken) s) run n a s h
+            ∙ ap (λ (k : ℕ). filedFrom depth logs (m + (r .n - k)) (t .run) k (a + t .taken) s) (sym next)
             ∙ q .files (omega arith) m;
       }
 
   pub passing : (f : ℕ) (run : Run) (n a : ℕ) → length s ≤ f + a → a ≤ length s → Passed depth logs s run n a (reachedFrom U.Frame f run n a s)
   unfolding reachedFrom
   passing zero run n a enough h =
-      let t = turnOf run n (drop a s) in
+      let t = turnOf run n a s in
       let fits = taken-left run n a s t refl in
       let none : t .taken ≡ 0 = omega arith in
       at-once run n a h (ap (goesOn U.Frame (t .line)) none ∙ none-ends U.Frame (t .line))
   passing (suc f) run n a enough h =
-      let t = turnOf run n (drop a s) in
+      let t = turnOf run n a s in
       let fits = taken-left run n a s t refl in
       by-case (goesOn U.Frame (t .line) (t .taken))
       (λ y.
       let some = on-takes U.Frame (t .line) (t .taken) y in
-      subst (Passed depth logs s run n a) (picked _ _ _ y) (one-more run n a _ h y (passing f (t .run) (grown n) (a + t .taken) (omega arith) (omega arith))))
+      subst (Passed depth logs s run n a) (picked _ _ _ y) (one-more run n a _ y (passing f (t .run) (grown n) (a + t .taken) (omega arith) (omega arith))))
       (λ y. subst (Passed depth logs s run n a) (passed _ _ _ y) (at-once run n a h y))

@@ -32,7 +32,7 @@ module _ (depth : Float) (logs : List Float) where
       let is = sym (passed (allNumbers f depth logs) (entry ++ rest .0, rest .1) ([], Refused Attenuation) y) in
       absurd (apart Attenuation (sym e ∙ ap (λ (x : List ℕ × Answer). x .1) is)))
   by-line f (L.Refused n r) rest rs h e = h e
-  by-line f (L.Bad n r) rest rs h e = absurd (apart r (sym e))
+  by-line f (L.Bad n r p) rest rs h e = absurd (apart r (sym e))
   by-line f (L.End n) rest rs h e = h e
 
   pub filed-records : (ts : List Turn) → filedOf depth logs ts .1 ≡ Taken → filedOf depth logs ts .0 ≡ fileOf (recordsIn depth logs ts)

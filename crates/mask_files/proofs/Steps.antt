@@ -6,8 +6,7 @@ use mathlib.Core.List.{List, [], _++_}
 use native.Mathlib.Omega.{arith}
 use lib.Dec.{leb}
 use lib.Ieee.{Float, nan}
-use lib.ListN.{length, drop, length-drop, length-append}
-use lib.Seq.{drop-drop}
+use lib.ListN.{length, length-append}
 use borrow.Author.Tests.{eq-eqb, le-ltb, le-leb, leb-true, leb-false}
 use Rattle.sequences.specs.Pick.{pick, by-case, picked, passed, took, skipped}
 use Rattle.text.specs.Put.{splice}
@@ -24,7 +23,7 @@ use Rattle.listing.specs.declared.lines.Line.the-variants as L
 use Rattle.listing.specs.declared.turns.Reached.{Reached}
 use Rattle.listing.specs.declared.turns.Turn.{Turn}
 use Rattle.listing.specs.Turns.{turnOf}
-use Rattle.listing.specs.Reaching.{isFrameless}
+use Rattle.listing.specs.Reaching.{isFrameless, insideOf}
 use Rattle.listing.proofs.TurnLaws.{taken-left}
 use Rattle.listing.specs.Ended.{badOf}
 use Rattle.mask_records.specs.declared.Written.{Written}
@@ -44,17 +43,16 @@ use Rattle.mask_files.proofs.Passing.{filedFrom, Passed, passing, last-
 
 -- ---- where the field that is reached stands
 module _ (walk : Walk) (script : List ℕ) (r : Reached) (eq : r ≡ reachOf walk script) where
-  pub reached : (depth : Float) (logs : List Float) → Passed depth logs (drop (walk .at) script) (walk .run) (walk .n) 0 r
+  pub reached : (depth : Float) (logs : List Float) → Passed depth logs script (walk .run) (walk .n) (insideOf (walk .at) script) r
   reached depth logs =
-      let s = drop (walk .at) script in
-      subst (Passed depth logs s (walk .run) (walk .n) 0) (sym eq) (passing depth logs s (length s) (walk .run) (walk .n) 0 (omega arith) (omega arith))
+      let a = insideOf (walk .at) script in
+      subst (Passed depth logs script (walk .run) (walk .n) a) (sym eq) (passing depth logs script (length script) (walk .run) (walk .n) a (omega arith) (omega arith))
 
-  pub reach-fits : r .at + r .turn .taken ≤ length script - walk .at
+  pub reach-fits : r .at + r .turn .taken ≤ length script
   reach-fits =
       let p = reached nan [] in
       let within = p .within in
-      let fits = taken-left (p .before) (r .n) (r .at) (drop (walk .at) script) (r .turn) (p .is) in
-      let all : length (drop (walk .at) script) ≡ length script - walk .at = length-drop (walk .at) script in
+      let fits = taken-left (p .before) (r .n) (r .at) script (r .turn) (p .is) in
       omega arith
 
 -- ---- a record, where the bins are lawful
@@ -90,7 +88,7 @@ module _ (sample : ℕ) (f : Frame) (depth : Float) (logs scratch : List Float) 
 
 -- ---- a walk in a script
 abbrev pub leftOf : Float → List Float → List ℕ → Walk → List ℕ × Answer
-leftOf depth logs script w = filedFrom depth logs (length script + 2 - w .n) (w .run) (w .n) (drop (w .at) script)
+leftOf depth logs script w = filedFrom depth logs (length script + 2 - w .n) (w .run) (w .n) (w .at) script
 
 -- each field before it took a byte at least
 pub record Stands (script : List ℕ) (w : Walk) : Type 0 where
@@ -123,50 +121,45 @@ module _ (depth : Float) (logs : List Float) (script : List ℕ) (top : length s
   r : Reached
   r = reachOf walk script
 
-  p : Passed depth logs (drop (walk .at) script) (walk .run) (walk .n) 0 r
+  p : Passed depth logs script (walk .run) (walk .n) (walk .at) r
   unfolding r
-  p = reached walk script (reachOf walk script) refl depth logs
+  p =
+      let here-at : insideOf (walk .at) script ≡ walk .at = omega (arith, here .inside) in
+      subst (λ (a : ℕ). Passed depth logs script (walk .run) (walk .n) a (reachOf walk script)) here-at (reached walk script (reachOf walk script) refl depth logs)
 
   next : Walk
-  next = walkAfter walk r
+  next = walkAfter r
 
-  all : length (drop (walk .at) script) ≡ length script - walk .at
-  all = length-drop (walk .at) script
+  counts : walk .n + length script < 2 ^ 64 + walk .at
+  counts = omega (arith, here .inside, here .few)
 
-  counts : walk .n + length (drop (walk .at) script) < 2 ^ 64 + 0
-  counts = omega (arith, all, here .inside, here .few)
+  within : r .at ≤ length script
+  within = p .within
 
-  place : drop (r .at) (drop (walk .at) script) ≡ drop (walk .at + r .at) script
-  place = drop-drop (r .at) (walk .at) script
-
-  fits : r .at + r .turn .taken ≤ length script - walk .at
+  fits : r .at + r .turn .taken ≤ length script
   unfolding r
   fits = reach-fits walk script (reachOf walk script) refl
 
   m : ℕ
   m = length script + 1 - r .n
 
-  t-is : r .turn ≡ turnOf (p .before) (r .n) (drop (walk .at + r .at) script)
-  t-is = p .is ∙ ap (turnOf (p .before) (r .n)) place
+  t-is : r .turn ≡ turnOf (p .before) (r .n) (r .at) script
+  t-is = p .is
 
   -- what is left is what is left from the field that was reached
-  from-there : leftOf depth logs script walk ≡ filedFrom depth logs (suc m) (p .before) (r .n) (drop (walk .at + r .at) script)
+  from-there : leftOf depth logs script walk ≡ filedFrom depth logs (suc m) (p .before) (r .n) (r .at) script
   unfolding m
   from-there =
       let low = p .low counts in
       let few = p .few counts in
       let h = here .few in
-      let in-s = here .inside in
-      let w = p .within in
-      let a = all in
+      let w = within in
       let fuel : length script + 2 - walk .n ≡ suc (length script + 1 - r .n) + (r .n - walk .n) = omega arith in
-      ap (λ (f : ℕ). filedFrom depth logs f (walk .run) (walk .n) (drop (walk .at) script)) fuel
-      ∙ p .files counts (suc (length script + 1 - r .n))
-      ∙ ap (filedFrom depth logs (suc (length script + 1 - r .n)) (p .before) (r .n)) place
+      ap (λ (f : ℕ). filedFrom depth logs f (walk .run) (walk .n) (walk .at) script) fuel ∙ p .files counts (suc (length script + 1 - r .n))
 
   at-last : r .turn .taken ≡ 0 → leftOf depth logs script walk ≡ filedBy depth logs (r .turn .run .frame) (r .turn .line) ([], Taken)
   at-last h =
-      from-there ∙ last-turn depth logs m (p .before) (r .n) (drop (walk .at + r .at) script) (ap (λ (x : Turn). x .taken) (sym t-is) ∙ h)
+      from-there ∙ last-turn depth logs m (p .before) (r .n) (r .at) script (ap (λ (x : Turn). x .taken) (sym t-is) ∙ h)
       ∙ ap (λ (x : Turn). filedBy depth logs (x .run .frame) (x .line) ([], Taken)) (sym t-is)
 
   at-frame : (r .turn .taken ≡ 0 → ⊥) → leftOf depth logs script walk ≡ filedBy depth logs (r .turn .run .frame) (r .turn .line) (leftOf depth logs script next)
@@ -175,19 +168,14 @@ module _ (depth : Float) (logs : List Float) (script : List ℕ) (top : length s
       let low = p .low counts in
       let few = p .few counts in
       let b = here .few in
-      let in-s = here .inside in
-      let w = p .within in
-      let a = all in
       let f = fits in
       let one : grown (r .n) ≡ r .n + 1 = omega arith in
       let fuel : length script + 1 - r .n ≡ length script + 2 - grown (r .n) = omega arith in
-      let s = drop (walk .at + r .at) script in
       from-there
-      ∙ one-turn depth logs m (p .before) (r .n) s (λ z. h (ap (λ (x : Turn). x .taken) t-is ∙ z))
-      ∙ ap (λ (x : Turn). filedBy depth logs (x .run .frame) (x .line) (filedFrom depth logs m (x .run) (r .n + 1) (drop (x .taken) s))) (sym t-is)
-      ∙ ap (λ (x : List ℕ). filedBy depth logs (r .turn .run .frame) (r .turn .line) (filedFrom depth logs m (r .turn .run) (r .n + 1) x)) (drop-drop (r .turn .taken) (walk .at + r .at) script)
-      ∙ ap (λ (f : ℕ). filedBy depth logs (r .turn .run .frame) (r .turn .line) (filedFrom depth logs f (r .turn .run) (r .n + 1) (drop (walk .at + r .at + r .turn .taken) script))) fuel
-      ∙ ap (λ (k : ℕ). filedBy depth logs (r .turn .run .frame) (r .turn .line) (filedFrom depth logs (length script + 2 - grown (r .n)) (r .turn .run) k (drop (walk .at + r .at + r .turn .taken) script))) (sym one)
+      ∙ one-turn depth logs m (p .before) (r .n) (r .at) script (λ z. h (ap (λ (x : Turn). x .taken) t-is ∙ z))
+      ∙ ap (λ (x : Turn). filedBy depth logs (x .run .frame) (x .line) (filedFrom depth logs m (x .run) (r .n + 1) (r .at + x .taken) script)) (sym t-is)
+      ∙ ap (λ (f : ℕ). filedBy depth logs (r .turn .run .frame) (r .turn .line) (filedFrom depth logs f (r .turn .run) (r .n + 1) (r .at + r .turn .taken) script)) fuel
+      ∙ ap (λ (k : ℕ). filedBy depth logs (r .turn .run .frame) (r .turn .line) (filedFrom depth logs (length script + 2 - grown (r .n)) (r .turn .run) k (r .at + r .turn .taken) script)) (sym one)
 
   next-stands : (r .turn .taken ≡ 0 → ⊥) → Stands script next
   unfolding next
@@ -196,16 +184,13 @@ module _ (depth : Float) (logs : List Float) (script : List ℕ) (top : length s
       let few = p .few counts in
       let b = here .few in
       let pos = here .some in
-      let in-s = here .inside in
-      let w = p .within in
-      let a = all in
       let f = fits in
       let one : grown (r .n) ≡ r .n + 1 = omega arith in
       record { inside = omega arith; some = omega arith; few = omega arith }
 
   next-further : (r .turn .taken ≡ 0 → ⊥) → walk .at < next .at
   unfolding next
-  next-further h = omega arith
+  next-further h = let after = p .after in omega arith
 
   module _ (scratch : List Float) (bins : Bins logs scratch) (out : List ℕ) (at : ℕ) where
     frame-tells : (n : ℕ) (v : Values) → r .turn .line ≡ L.Frame n v
@@ -215,7 +200,7 @@ module _ (depth : Float) (logs : List Float) (script : List ℕ) (top : length s
         let b = recordOf (v .sample) (entriesOf f depth logs) in
         let size : length b ≡ recordSize (length logs) = record-length (v .sample) (entriesOf f depth logs) ∙ ap recordSize (entries-count f depth logs) in
         let framed = ap isFrameless (ap (λ (x : Turn). x .line) (sym t-is) ∙ e) in
-        let some : r .turn .taken ≡ 0 → ⊥ = λ z. frame-takes (p .before) (r .n) (drop (walk .at + r .at) script) framed (ap (λ (x : Turn). x .taken) (sym t-is) ∙ z) in
+        let some : r .turn .taken ≡ 0 → ⊥ = λ z. frame-takes (p .before) (r .n) (r .at) script framed (ap (λ (x : Turn). x .taken) (sym t-is) ∙ z) in
         let left = at-frame some ∙ ap (λ (l : Line). filedBy depth logs f l (leftOf depth logs script next)) e in
         let rest = leftOf depth logs script next in
         by-case (allNumbers f depth logs)
@@ -249,7 +234,7 @@ module _ (depth : Float) (logs : List Float) (script : List ℕ) (top : length s
     filed-last L.Nothing h f = refl
     filed-last (L.Frame n v) h f = absurd (false≢true h)
     filed-last (L.Refused n k) h f = refl
-    filed-last (L.Bad n k) h f = refl
+    filed-last (L.Bad n k p) h f = refl
     filed-last (L.End n) h f = refl
 
     last-tells : (l : Line) → r .turn .line ≡ l → isFrameless l ≡ true → leftOf depth logs script walk ≡ ([], badOf l)
@@ -262,7 +247,7 @@ module _ (depth : Float) (logs : List Float) (script : List ℕ) (top : length s
     line-tells (L.Frame n v) e = frame-tells n v e
     line-tells L.Nothing e = (refl, last-tells L.Nothing e refl)
     line-tells (L.Refused n k) e = (refl, last-tells (L.Refused n k) e refl)
-    line-tells (L.Bad n k) e = (refl, last-tells (L.Bad n k) e refl)
+    line-tells (L.Bad n k p) e = (refl, last-tells (L.Bad n k p) e refl)
     line-tells (L.End n) e = (refl, last-tells (L.End n) e refl)
 
     pub step-tells : Tells depth logs script walk (walkStep walk script depth logs scratch out at .0 .walk) out (walkStep walk script depth logs scratch out at .2) at (walkStep walk script depth logs scratch out at .0 .made)

@@ -28,7 +28,7 @@ filedBy depth logs f L.Nothing rest = rest
 filedBy depth logs f (L.Frame n v) rest =
     pick (allNumbers f depth logs) (recordOf (v .sample) (entriesOf f depth logs) ++ rest .0, rest .1) ([], Refused Attenuation)
 filedBy depth logs f (L.Refused n r) rest = rest
-filedBy depth logs f (L.Bad n r) rest = ([], Refused r)
+filedBy depth logs f (L.Bad n r p) rest = ([], Refused r)
 filedBy depth logs f (L.End n) rest = rest
 
 -- the bytes of the records, and how they end: at the end of the turns, at a bad field, or at a frame that has no record
@@ -41,7 +41,7 @@ abbrev pub recordBy : Float → List Float → Frame → Line → List Record �
 recordBy depth logs f L.Nothing rest = rest
 recordBy depth logs f (L.Frame n v) rest = (v .sample, entriesOf f depth logs) ∷ rest
 recordBy depth logs f (L.Refused n r) rest = rest
-recordBy depth logs f (L.Bad n r) rest = rest
+recordBy depth logs f (L.Bad n r p) rest = rest
 recordBy depth logs f (L.End n) rest = rest
 
 unfoldable pub recordsIn : Float → List Float → List Turn → List Record

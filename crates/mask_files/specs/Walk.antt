@@ -1,7 +1,7 @@
 -- A walk over the accepted frames of a script, a record a step. Definitions only.
 use Prim.Native.Nat.{ℕ, _+_}
 use mathlib.Core.List.{List}
-use lib.ListN.{length, drop}
+use lib.ListN.{length}
 use lib.Ieee.{Float}
 use Rattle.refusals.specs.declared.Answer.{Answer}
 use Rattle.floats.specs.Word.{grown}
@@ -11,7 +11,7 @@ use Rattle.listing.specs.declared.lines.Line.{Line}
 use Rattle.listing.specs.declared.lines.Line.the-variants as L
 use Rattle.listing.specs.declared.turns.Reached.{Reached}
 use Rattle.listing.specs.declared.turns.Until.the-variants as U
-use Rattle.listing.specs.Reaching.{reachedOf}
+use Rattle.listing.specs.Reaching.{insideOf, reachedOf}
 use Rattle.mask_records.specs.declared.Written.{Written}
 use Rattle.mask_records.specs.declared.Written.the-variants as W
 use Rattle.mask_records.specs.Written.{recordWritten}
@@ -25,9 +25,9 @@ use Rattle.mask_files.specs.declared.Walk.{Walk}
 unfoldable pub walkStart : Walk
 walkStart = record { run = fresh; n = 1; at = 0 }
 
--- behind the field that was reached. Its number counts on as a word of 64 bits; its place is in the script, or where it was if that lies behind the script.
-abbrev pub walkAfter : Walk → Reached → Walk
-walkAfter walk r = record { run = r .turn .run; n = grown (r .n); at = walk .at + r .at + r .turn .taken }
+-- behind the field that was reached. Its number counts on as a word of 64 bits; its place is in the script.
+abbrev pub walkAfter : Reached → Walk
+walkAfter r = record { run = r .turn .run; n = grown (r .n); at = r .at + r .turn .taken }
 
 abbrev pub walkStepped : Walk → Made → Step
 walkStepped walk made = record { walk = walk; made = made }
@@ -46,17 +46,16 @@ abbrev pub stepBy : Walk → Frame → Line → Float → List Float → List Fl
 stepBy walk f (L.Frame n v) depth logs scratch out at = writtenBy walk n (recordWritten (v .sample) f depth logs scratch out at)
 stepBy walk f L.Nothing depth logs scratch out at = (walkStepped walk (M.Last L.Nothing), scratch, out)
 stepBy walk f (L.Refused n r) depth logs scratch out at = (walkStepped walk (M.Last (L.Refused n r)), scratch, out)
-stepBy walk f (L.Bad n r) depth logs scratch out at = (walkStepped walk (M.Last (L.Bad n r)), scratch, out)
+stepBy walk f (L.Bad n r p) depth logs scratch out at = (walkStepped walk (M.Last (L.Bad n r p)), scratch, out)
 stepBy walk f (L.End n) depth logs scratch out at = (walkStepped walk (M.Last (L.End n)), scratch, out)
 
 abbrev pub reachOf : Walk → List ℕ → Reached
-reachOf walk script = reachedOf U.Frame (walk .run) (walk .n) (drop (walk .at) script)
+reachOf walk script = reachedOf U.Frame (walk .run) (walk .n) (insideOf (walk .at) script) script
 
--- behind the script's end nothing is left of it
 unfoldable pub walkStep : Walk → List ℕ → Float → List Float → List Float → List ℕ → ℕ → Step × List Float × List ℕ
 walkStep walk script depth logs scratch out at =
     let r = reachOf walk script in
-    stepBy (walkAfter walk r) (r .turn .run .frame) (r .turn .line) depth logs scratch out at
+    stepBy (walkAfter r) (r .turn .run .frame) (r .turn .line) depth logs scratch out at
 
 -- how many bytes there are, and how they end
 abbrev pub measuredOf : List ℕ × Answer → Measured

@@ -1,7 +1,6 @@
 // A walk over the accepted frames of a script, a record a step.
 ghost use mathlib.Core.Path.{_≡_};
-ghost use Prim.Native.Nat.{_+_, _≤_, _<_, _^_};
-ghost use lib.ListN.{length, drop};
+ghost use Prim.Native.Nat.{_+_, _<_, _^_};
 ghost use Rattle.mask_files.specs.Walk.{walkStart, walkAfter, madeOf, walkStep};
 use crate::Made;
 use crate::Step;
@@ -18,17 +17,10 @@ pub fn start() -> Walk
     Walk { run, n: 1, at: 0 }
 }
 
-// A place behind the script's end, where nothing is left of it, is its end.
-fn inside(at: usize, script: &[u8]) -> usize
-    ensures { λ r. ⌜ (r ≤ length (now (script .entry))) × (drop r (now (script .entry)) ≡ drop at (now (script .entry))) ⌝ }
-{
-    if at < script.len() { at } else { script.len() }
-}
-
 // The walk behind the field that was reached.
-fn behind(walk: Walk, reached: Reached) -> Walk
-    requires { ⌜ walk .at + reached .at + reached .turn .taken < 2 ^ 64 ⌝ }
-    ensures { λ r. ⌜ r ≡ walkAfter walk reached ⌝ }
+fn behind(reached: Reached) -> Walk
+    requires { ⌜ reached .at + reached .turn .taken < 2 ^ 64 ⌝ }
+    ensures { λ r. ⌜ r ≡ walkAfter reached ⌝ }
 {
     let turn = reached.turn;
     let run = turn.run;
@@ -36,7 +28,7 @@ fn behind(walk: Walk, reached: Reached) -> Walk
     Walk {
         run,
         n,
-        at: walk.at + reached.at + turn.taken,
+        at: reached.at + turn.taken,
     }
 }
 
@@ -62,10 +54,9 @@ pub fn next_record(
 ) -> Step
     ensures { λ r. ⌜ (r, now (scratch .exit), now (out .exit)) ≡ walkStep walk (now (script .entry)) «depth_db» (now (logs .entry)) (now (scratch .entry)) (now (out .entry)) at ⌝ }
 {
-    let from = inside(walk.at, script);
     let run = walk.run;
-    let reached = listing::next_frame(run, walk.n, &script[from..]);
-    let next = behind(walk, reached);
+    let reached = listing::next_frame(run, walk.n, walk.at, script);
+    let next = behind(reached);
     let turn = reached.turn;
     let line = turn.line;
     match line {
@@ -94,9 +85,9 @@ pub fn next_record(
             walk: next,
             made: Made::Last(Line::Refused(n, refusal)),
         },
-        Line::Bad(n, refusal) => Step {
+        Line::Bad(n, refusal, place) => Step {
             walk: next,
-            made: Made::Last(Line::Bad(n, refusal)),
+            made: Made::Last(Line::Bad(n, refusal, place)),
         },
         Line::End(n) => Step {
             walk: next,

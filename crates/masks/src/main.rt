@@ -89,7 +89,7 @@ fn say_end(text: &mut [u8], line: Line, records: u64) {
         Line::Nothing => say_line(text, line),
         Line::Frame(_, _) => say_line(text, line),
         Line::Refused(_, _) => say_line(text, line),
-        Line::Bad(_, _) => say_line(text, line),
+        Line::Bad(_, _, _) => say_line(text, line),
     }
 }
 
@@ -141,7 +141,7 @@ fn file(
     text: &mut [u8],
 ) {
     if script.len() > script::MAX_SCRIPT_BYTES {
-        return say_line(text, Line::Bad(0, Refusal::Script));
+        return say_line(text, Line::Bad(0, Refusal::Script, 0));
     }
     mask_files::prepare(script, size, logs);
     write_masks(script, depth_db, logs, scratch, out, text)

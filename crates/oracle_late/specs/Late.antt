@@ -2,7 +2,7 @@
 use Prim.Native.Nat.{ℕ, zero, suc, _+_}
 use mathlib.Core.Bool.{cond}
 use mathlib.Core.List.{List, [], _++_}
-use lib.ListN.{length, drop}
+use lib.ListN.{length}
 use lib.Dec.{eqb, leb, ltb}
 use Rattle.sequences.specs.Pick.{pick}
 use Rattle.text.specs.Put.{splice}
@@ -29,15 +29,15 @@ countedOf start run = pick (eqb start 0) run (withEngine run (withSample (run .e
 unfoldable pub runAfter : ℕ → ℕ → Run → Run
 runAfter start n run = pick (eqb n 1) (countedOf start run) run
 
--- the text of the turns from field n on, at the start of s, at most f of them
-unfoldable pub textLate : ℕ → ℕ → Run → ℕ → List ℕ → List ℕ
-textLate start zero run n s = []
-textLate start (suc f) run n s =
-    let t = turnOf run n s in
-    textOf (t .line) ++ cond (eqb (t .taken) 0) [] (textLate start f (runAfter start n (t .run)) (n + 1) (drop (t .taken) s))
+-- the text of the turns from field n on, which stands at `at`, at most f of them
+unfoldable pub textLate : ℕ → ℕ → Run → ℕ → ℕ → List ℕ → List ℕ
+textLate start zero run n at s = []
+textLate start (suc f) run n at s =
+    let t = turnOf run n at s in
+    textOf (t .line) ++ cond (eqb (t .taken) 0) [] (textLate start f (runAfter start n (t .run)) (n + 1) (at + t .taken) s)
 
 unfoldable pub printedLate : ℕ → List ℕ → List ℕ
-printedLate start s = cond (leb (length s) 60000) (textLate start (length s + 1) fresh 1 s) (textOf (L.Bad 0 Script))
+printedLate start s = cond (leb (length s) 60000) (textLate start (length s + 1) fresh 1 0 s) (textOf (L.Bad 0 Script 0))
 
 abbrev pub listedLate : ℕ → ℕ → List ℕ → Listed
 listedLate start has s = cond (ltb has (roomFor (length s))) (Refused Room) (Count (length (printedLate start s)))

@@ -2,7 +2,7 @@
 // the comparison with the Rust near the limit of samples.
 ghost use mathlib.Core.Path.{_≡_};
 ghost use Prim.Native.Nat.{_+_, _-_, _<_, _≤_};
-ghost use lib.ListN.{length, drop};
+ghost use lib.ListN.{length};
 ghost use Rattle.text.specs.Put.{Put};
 ghost use Rattle.oracle_late.specs.Late.{countedOf, runAfter, textLate, printedLate, listedLate, leftLate};
 use listing::Line;
@@ -50,14 +50,14 @@ fn list_fields(
     out: &mut [u8],
 ) -> usize
     requires { ⌜ (at ≤ length (now script)) × (0 < n) × (n ≤ at + 1) ⌝ }
-    ensures { λ r. ⌜ Put (now (out .entry)) (now (out .exit)) w r (textLate start (length (now (script .entry)) + 2 - n) run n (drop at (now (script .entry)))) ⌝ }
+    ensures { λ r. ⌜ Put (now (out .entry)) (now (out .exit)) w r (textLate start (length (now (script .entry)) + 2 - n) run n at (now (script .entry))) ⌝ }
 {
     let mut run = run;
     let mut n = n;
     let mut at = at;
     let mut w = w;
     loop {
-        let turn = listing::one_turn(run, n, &script[at..]);
+        let turn = listing::one_turn(run, n, at, script);
         let line = turn.line;
         w = listing::put_line(out, w, line);
         let k = turn.taken;
@@ -77,7 +77,7 @@ fn put_listing(start: u64, script: &[u8], out: &mut [u8]) -> usize
     if script.len() <= script::MAX_SCRIPT_BYTES {
         list_fields(start, script_steps::fresh(), 1, 0, 0, script, out)
     } else {
-        listing::put_line(out, 0, Line::Bad(0, Refusal::Script))
+        listing::put_line(out, 0, Line::Bad(0, Refusal::Script, 0))
     }
 }
 

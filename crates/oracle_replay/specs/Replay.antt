@@ -64,17 +64,17 @@ answerByte run n s = readAnswer run (readOf s (eqb n 1))
 unfoldable pub leftBy : Run → ℕ → List (List ℕ)
 leftBy run answer = stateBytes (run .engine) ∷ frameBytes (run .frame) ∷ (answer ∷ []) ∷ []
 
--- what the fields leave, from field n on, at the start of s, at most f of them
-unfoldable pub leftFrom : ℕ → ℕ → Run → ℕ → List ℕ → List ℕ
-leftFrom start zero run n s = []
-leftFrom start (suc f) run n s =
-    let t = turnOf run n s in
+-- what the fields leave, from field n on, which stands at `at`, at most f of them
+unfoldable pub leftFrom : ℕ → ℕ → Run → ℕ → ℕ → List ℕ → List ℕ
+leftFrom start zero run n at s = []
+leftFrom start (suc f) run n at s =
+    let t = turnOf run n at s in
     let after = runAfter start n (t .run) in
-    cond (eqb (t .taken) 0) [] (joined (leftBy after (answerByte run n s)) ++ leftFrom start f after (n + 1) (drop (t .taken) s))
+    cond (eqb (t .taken) 0) [] (joined (leftBy after (answerByte run n (drop at s))) ++ leftFrom start f after (n + 1) (at + t .taken) s)
 
 -- each field takes a byte at least, so that these are all
 unfoldable pub leftOf : ℕ → List ℕ → List ℕ
-leftOf start s = leftFrom start (length s + 1) fresh 1 s
+leftOf start s = leftFrom start (length s + 1) fresh 1 0 s
 
 -- a script of lawful size, and 5,498 bytes for each byte of it: a field takes three or more, and leaves 16,493
 abbrev pub fits : List ℕ → List ℕ → Bool

@@ -2,7 +2,7 @@
 // leaves.
 ghost use mathlib.Core.Path.{_≡_};
 ghost use Prim.Native.Nat.{_+_, _-_, _<_, _≤_};
-ghost use lib.ListN.{length, drop};
+ghost use lib.ListN.{length};
 ghost use Rattle.text.specs.Put.{Put, placeAfter, bufferAfter};
 ghost use Rattle.listing.specs.Listed.{listedOf, leftIn};
 ghost use Rattle.oracle_late.specs.Late.{listedLate, leftLate};
@@ -113,14 +113,14 @@ fn put_fields(
     out: &mut [u8],
 ) -> usize
     requires { ⌜ (at ≤ length (now script)) × (0 < n) × (n ≤ at + 1) ⌝ }
-    ensures { λ r. ⌜ Put (now (out .entry)) (now (out .exit)) w r (leftFrom start (length (now (script .entry)) + 2 - n) run n (drop at (now (script .entry)))) ⌝ }
+    ensures { λ r. ⌜ Put (now (out .entry)) (now (out .exit)) w r (leftFrom start (length (now (script .entry)) + 2 - n) run n at (now (script .entry))) ⌝ }
 {
     let mut run = run;
     let mut n = n;
     let mut at = at;
     let mut w = w;
     loop {
-        let turn = listing::one_turn(run, n, &script[at..]);
+        let turn = listing::one_turn(run, n, at, script);
         let k = turn.taken;
         if k == 0 {
             return w;

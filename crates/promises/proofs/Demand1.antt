@@ -12,7 +12,7 @@ use Rattle.sequences.specs.Pick.{pick, picked, passed, either, by-case}
 use Rattle.refusals.specs.declared.Answer.{Answer}
 use Rattle.refusals.specs.declared.Answer.the-variants.{Taken, Refused}
 use Rattle.refusals.specs.declared.Refusal.{Refusal}
-use Rattle.refusals.specs.declared.Refusal.the-variants.{Rate, Slot, Size, Elapsed, Lengths, Logs, Seconds, Tag, Cut, Value, Place, Script, Room, Attenuation, Record}
+use Rattle.refusals.specs.declared.Refusal.the-variants.{Rate, Slot, Size, Elapsed, Lengths, Logs, Seconds, Tag, Value, Place, Script, Room, HeaderCut, WrongLength, ValueCut, Attenuation, Record}
 use Rattle.refusals.specs.Numbers.{numberOf, answerOf}
 use Rattle.settings.specs.Settings.{checkedOf, lawfulRate}
 use Rattle.engine.specs.New.{newEngineOf}
@@ -39,10 +39,13 @@ use Rattle.mask_files.specs.declared.Filed.the-variants as Files
 use Rattle.mask_files.specs.Records.{filedOf}
 use Rattle.mask_files.specs.Masks.{logsFor, filedNumber, placedBy, masksOf}
 use Rattle.script.specs.declared.fields.Field.{Field}
+use Rattle.script.specs.declared.Read.{Read}
 use Rattle.script.specs.declared.Read.the-variants as R
 use Rattle.big_endian.specs.Numbers.{be16}
 use Rattle.text.specs.Put.{splice}
-use Rattle.listing.specs.Turns.{turnsOf}
+use Rattle.script_steps.specs.declared.Run.{Run}
+use Rattle.listing.specs.declared.lines.Line.the-variants as L
+use Rattle.listing.specs.Turns.{badPlace, afterOf, turnOf, turnsOf}
 use Rattle.script.specs.Table.{kindOf, lengthOf, lawful}
 use Rattle.script.specs.Field.{misplaced, unknown, bodyOf, readOf}
 use Rattle.listing.specs.declared.ending.Ended.{Ended}
@@ -179,11 +182,13 @@ counts Lengths = refl
 counts Logs = refl
 counts Seconds = refl
 counts Tag = refl
-counts Cut = refl
 counts Value = refl
 counts Place = refl
 counts Script = refl
 counts Room = refl
+counts HeaderCut = refl
+counts WrongLength = refl
+counts ValueCut = refl
 counts Attenuation = refl
 counts Record = refl
 
@@ -213,8 +218,8 @@ filed-first false false false got out rows h = h
 field-read : (a first b c d f g h : Bool) (x : Field) (k : ℕ)
     → readNumber
     (cond a (cond first (R.Bad Place) R.End)
-    (cond b (R.Bad Cut) (cond c (R.Bad Place) (cond d (R.Bad Tag) (cond f (cond g (cond h (R.Field x k) (R.Bad Value)) (R.Bad Cut)) (R.Bad Cut))))))
-    ≡ firstOf ((a && first, 11) ∷ (a, 0) ∷ (b, 9) ∷ (c, 11) ∷ (d, 8) ∷ (not f, 9) ∷ (not g, 9) ∷ (not h, 10) ∷ [])
+    (cond b (R.Bad HeaderCut) (cond c (R.Bad Place) (cond d (R.Bad Tag) (cond f (cond g (cond h (R.Field x k) (R.Bad Value)) (R.Bad ValueCut)) (R.Bad WrongLength))))))
+    ≡ firstOf ((a && first, 11) ∷ (a, 0) ∷ (b, 14) ∷ (c, 11) ∷ (d, 8) ∷ (not f, 15) ∷ (not g, 16) ∷ (not h, 10) ∷ [])
 unfolding firstOf pick
 field-read true true b c d f g h x k = refl
 field-read true false b c d f g h x k = refl
@@ -225,6 +230,10 @@ field-read false first false false false false g h x k = refl
 field-read false first false false false true false h x k = refl
 field-read false first false false false true true false x k = refl
 field-read false first false false false true true true x k = refl
+
+field-told : (before : Run) (n at : ℕ) (s : List ℕ) (r : Refusal) → readOf (drop at s) (eqb n 1) ≡ R.Bad r → turnOf before n at s .line ≡ L.Bad n r (pick (eqb (numberOf r) 14) (length s) at)
+unfolding turnOf badPlace
+field-told before n at s r e = ap (λ (x : Read). afterOf before n at s x .line) e
 
 -- ---- a whole script
 entered : (a b : Bool) (x y : Ended) → y .answer ≡ Refused Script → (rows : List Row) → answerOf (x .answer) ≡ firstOf rows
@@ -290,6 +299,7 @@ demand1 =
           λ s first.
           let k = kindOf (getD s 0 0) in
           field-read (eqb (length s) 0) first (ltb (length s) 3) (misplaced (getD s 0 0) first) (unknown (getD s 0 0)) (eqb (be16 s 1) (lengthOf k)) (leb (lengthOf k) (length s - 3)) (lawful k (drop 3 s)) _ _;
+      field-place = λ before n at s r e. field-told before n at s r e;
       step = step-answers;
       script = stops;
       entry = λ s o. entered (eqb (length o) 2308) (leb (length s) 60000) _ _ refl (stopRows s) (stops s .number);

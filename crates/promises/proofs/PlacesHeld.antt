@@ -43,7 +43,7 @@ unfolding valuesOf
 walked e L.Nothing c t = refl
 walked e (L.Frame n v) c t = ap (λ (a : ℕ). L.Frame n (withActive a v)) (sym (ap (λ (x : Values). x .active) (t .1) ∙ c))
 walked e (L.Refused n r) c t = refl
-walked e (L.Bad n r) c t = refl
+walked e (L.Bad n r p) c t = refl
 walked e (L.End n) c t = refl
 
 walked-turn : (s : List ℕ) (before after : List Turn) (t : Turn) → turnsOf s ≡ before ++ t ∷ after → walkedLine t ≡ t .line

@@ -39,7 +39,7 @@ module _ (depth : Float) (logs : List Float) (lo : 1 ≤ length logs) (hi : leng
       let k = entries-count f depth logs in
       ((omega (arith, k), omega (arith, k), λ i h. entries-known f depth logs i (omega (arith, k))), w)
   own-whole f (L.Refused n r) rs w = w
-  own-whole f (L.Bad n r) rs w = w
+  own-whole f (L.Bad n r p) rs w = w
   own-whole f (L.End n) rs w = w
 
   records-whole : (ts : List Turn) → Every WholeRecord (recordsIn depth logs ts)

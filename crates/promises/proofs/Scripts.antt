@@ -42,7 +42,7 @@ use Rattle.script_steps.specs.declared.Reply.the-variants as R
 use Rattle.script_steps.specs.Steps.{fresh, answeredOf, doneOf, outcomeStep, firedOf, frameStep, framedStep, sourceOf, stepOf}
 use Rattle.listing.specs.declared.turns.Turn.{Turn}
 use Rattle.listing.specs.Turns.{toldOf, refusalOf, repliedOf, turnsOf}
-use Rattle.promises.specs.Over.{lastLine, turnsOver}
+use Rattle.promises.specs.Over.{badAt, lastLine, turnsOver}
 use Rattle.promises.proofs.Follow.{turns-follow}
 use Rattle.engine_laws.specs.Acts.{Call, Typed, applied}
 use Rattle.promises.specs.Life.{Held}
@@ -138,14 +138,14 @@ goes-on s before between after q cs h =
     ∙ ap (λ (fs : List Field). run (reached (courseFrom k fs)) cs) (sym first)
 
 -- ---- the turns over a list of fields
-replied-run : (n size : ℕ) (r : Run) (a : Reply) → repliedOf n size r a .run ≡ r
-replied-run n size r R.Quiet = refl
-replied-run n size r (R.Refused c) = go (eqb n 1)
+replied-run : (n at size : ℕ) (r : Run) (a : Reply) → repliedOf n at size r a .run ≡ r
+replied-run n at size r R.Quiet = refl
+replied-run n at size r (R.Refused c) = go (eqb n 1)
   where
-    go : (first : Bool) → refusalOf first r n size c .run ≡ r
+    go : (first : Bool) → refusalOf first r n at size c .run ≡ r
     go true = refl
     go false = refl
-replied-run n size r (R.Framed v) = refl
+replied-run n at size r (R.Framed v) = refl
 
 pub nothing-after : {A X : Type 0} (xs ys : List A) (x : A) → [] ≡ xs ++ x ∷ ys → X
 nothing-after [] ys x q = absurd (let z : _≡_ {A = ℕ} 0 1 = cc in omega arith)
@@ -154,34 +154,34 @@ nothing-after (y ∷ xs) ys x q = absurd (let z : _≡_ {A = ℕ} 0 1 = cc in om
 -- the turn of one field, before which the run is at the end of a course
 module _ (p : Placed) (before : Run) (n : ℕ) where
   abbrev pub turnAt : Turn
-  turnAt = repliedOf n (p .size) (stepOf before (p .field) .run) (stepOf before (p .field) .reply)
+  turnAt = repliedOf n (p .place) (p .size) (stepOf before (p .field) .run) (stepOf before (p .field) .reply)
 
   pub turn-moved : (k : Course) → before .engine ≡ reached k → turnAt .run .engine ≡ reached (movedBy k (moveOf (p .field)))
   turn-moved k q =
-      ap (λ (r : Run). r .engine) (replied-run n (p .size) (stepOf before (p .field) .run) (stepOf before (p .field) .reply))
+      ap (λ (r : Run). r .engine) (replied-run n (p .place) (p .size) (stepOf before (p .field) .run) (stepOf before (p .field) .reply))
       ∙ step-engine before (p .field)
       ∙ moved-on k (before .engine) (moveOf (p .field)) q
 
-over-is-run : (ps : List Placed) (v : Verdict) (before : Run) (n : ℕ) (k : Course) → before .engine ≡ reached k → (ts us : List Turn) (t : Turn) → turnsOver before n ps v ≡ ts ++ t ∷ us
+over-is-run : (ps : List Placed) (at : ℕ) (v : Verdict) (before : Run) (n : ℕ) (k : Course) → before .engine ≡ reached k → (ts us : List Turn) (t : Turn) → turnsOver before n ps at v ≡ ts ++ t ∷ us
     → t .run .engine ≡ reached (courseFrom k (take (suc (length ts)) (map (λ (p : Placed). p .field) ps)))
 unfolding turnsOver courseFrom
-over-is-run [] v before n k q [] us t h = let same : toldOf before (lastLine n v) 0 ≡ t = cc in ap (λ (x : Turn). x .run .engine) (sym same) ∙ q
-over-is-run [] v before n k q (u ∷ ts) us t h = let rest : [] ≡ ts ++ t ∷ us = cc in nothing-after ts us t rest
-over-is-run (p ∷ ps) v before n k q [] us t h =
+over-is-run [] at v before n k q [] us t h = let same : toldOf before (lastLine n at v) 0 ≡ t = cc in ap (λ (x : Turn). x .run .engine) (sym same) ∙ q
+over-is-run [] at v before n k q (u ∷ ts) us t h = let rest : [] ≡ ts ++ t ∷ us = cc in nothing-after ts us t rest
+over-is-run (p ∷ ps) at v before n k q [] us t h =
     let same : turnAt p before n ≡ t = cc in
     ap (λ (x : Turn). x .run .engine) (sym same) ∙ turn-moved p before n k q
-over-is-run (p ∷ ps) v before n k q (u ∷ ts) us t h =
+over-is-run (p ∷ ps) at v before n k q (u ∷ ts) us t h =
     let here = turnAt p before n in
-    let rest : cond (eqb (here .taken) 0) [] (turnsOver (here .run) (n + 1) ps v) ≡ ts ++ t ∷ us = cc in
+    let rest : cond (eqb (here .taken) 0) [] (turnsOver (here .run) (n + 1) ps at v) ≡ ts ++ t ∷ us = cc in
     by-case (eqb (here .taken) 0)
     (λ y. nothing-after ts us t (rw y at rest))
-    (λ y. over-is-run ps v (here .run) (n + 1) (movedBy k (moveOf (p .field))) (turn-moved p before n k q) ts us t (rw y at rest))
+    (λ y. over-is-run ps at v (here .run) (n + 1) (movedBy k (moveOf (p .field))) (turn-moved p before n k q) ts us t (rw y at rest))
 
 turn-is-run : (s : List ℕ) (before after : List Turn) (t : Turn) → turnsOf s ≡ before ++ t ∷ after → t .run .engine ≡ reached (courseOf s (suc (length before)))
 unfolding run
 turn-is-run s before after t h =
     let r = onward 1 0 s in
-    over-is-run (r .fields) (r .verdict) fresh 1 (begunAt (fresh .engine)) refl before after t (sym (turns-follow s) ∙ h)
+    over-is-run (r .fields) (badAt s r) (r .verdict) fresh 1 (begunAt (fresh .engine)) refl before after t (sym (turns-follow s) ∙ h)
 
 -- ---- what the reader hands over is typed
 abbrev TypedMove : Move → Type 0

@@ -42,7 +42,7 @@ abbrev pub Tells : Engine → Line → Type 0
 Tells e L.Nothing = Unit {0}
 Tells e (L.Frame n v) = (activity : Float) × (v ≡ valuesOf e activity)
 Tells e (L.Refused n r) = Unit {0}
-Tells e (L.Bad n r) = Unit {0}
+Tells e (L.Bad n r p) = Unit {0}
 Tells e (L.End n) = Unit {0}
 
 -- ---- a field
@@ -97,35 +97,35 @@ step-says before (F.ReservedTrigger s i) = fired-says before (triggeredBy (befor
 abbrev TurnTells : Turn → Type 0
 TurnTells t = Tells (t .run .engine) (t .line)
 
-replied-tells : (n k : ℕ) (r : Run) (a : Reply) → Says (r .engine) a → TurnTells (repliedOf n k r a)
-replied-tells n k r R.Quiet s = tt
-replied-tells n k r (R.Refused c) s = go (eqb n 1)
+replied-tells : (n at k : ℕ) (r : Run) (a : Reply) → Says (r .engine) a → TurnTells (repliedOf n at k r a)
+replied-tells n at k r R.Quiet s = tt
+replied-tells n at k r (R.Refused c) s = go (eqb n 1)
   where
-    go : (first : Bool) → TurnTells (refusalOf first r n k c)
+    go : (first : Bool) → TurnTells (refusalOf first r n at k c)
     go true = tt
     go false = tt
-replied-tells n k r (R.Framed v) s = s
+replied-tells n at k r (R.Framed v) s = s
 
-after-tells : (before : Run) (n : ℕ) (r : Read) → TurnTells (afterOf before n r)
-after-tells before n (S.Field f k) = replied-tells n k (stepOf before f .run) (stepOf before f .reply) (step-says before f)
-after-tells before n (S.Bad r) = tt
-after-tells before n S.End = tt
+after-tells : (before : Run) (n at : ℕ) (s : List ℕ) (r : Read) → TurnTells (afterOf before n at s r)
+after-tells before n at s (S.Field f k) = replied-tells n at k (stepOf before f .run) (stepOf before f .reply) (step-says before f)
+after-tells before n at s (S.Bad r) = tt
+after-tells before n at s S.End = tt
 
-turn-tells : (before : Run) (n : ℕ) (s : List ℕ) → TurnTells (turnOf before n s)
+turn-tells : (before : Run) (n at : ℕ) (s : List ℕ) → TurnTells (turnOf before n at s)
 unfolding turnOf
-turn-tells before n s = after-tells before n (readOf s (eqb n 1))
+turn-tells before n at s = after-tells before n at s (readOf (drop at s) (eqb n 1))
 
 -- ---- a script
-turns-tell : (f : ℕ) (before : Run) (n : ℕ) (s : List ℕ) → Every TurnTells (turnsFrom f before n s)
+turns-tell : (f : ℕ) (before : Run) (n at : ℕ) (s : List ℕ) → Every TurnTells (turnsFrom f before n at s)
 unfolding turnsFrom
-turns-tell zero before n s = tt
-turns-tell (suc f) before n s =
-    let t = turnOf before n s in
-    (turn-tells before n s, go (eqb (t .taken) 0) _ (turns-tell f (t .run) (n + 1) (drop (t .taken) s)))
+turns-tell zero before n at s = tt
+turns-tell (suc f) before n at s =
+    let t = turnOf before n at s in
+    (turn-tells before n at s, go (eqb (t .taken) 0) _ (turns-tell f (t .run) (n + 1) (at + t .taken) s))
   where
     go : (b : Bool) (ts : List Turn) → Every TurnTells ts → Every TurnTells (cond b [] ts)
     go true ts a = tt
     go false ts a = a
 
 pub told : (s : List ℕ) (before after : List Turn) (t : Turn) → turnsOf s ≡ before ++ t ∷ after → Tells (t .run .engine) (t .line)
-told s before after t h = every-there TurnTells before after t (subst (Every TurnTells) h (turns-tell (length s + 1) fresh 1 s))
+told s before after t h = every-there TurnTells before after t (subst (Every TurnTells) h (turns-tell (length s + 1) fresh 1 0 s))

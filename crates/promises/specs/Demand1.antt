@@ -11,7 +11,9 @@ use lib.ListN.{length, getD, drop}
 use lib.Ieee.{Float, isNan}
 use Rattle.sequences.specs.All.{all}
 use Rattle.floats.specs.Names.{f32}
-use Rattle.refusals.specs.Numbers.{answerOf}
+use Rattle.sequences.specs.Pick.{pick}
+use Rattle.refusals.specs.declared.Refusal.{Refusal}
+use Rattle.refusals.specs.Numbers.{numberOf, answerOf}
 use Rattle.settings.specs.declared.Config.{Config}
 use Rattle.sources.specs.declared.Source.{Source}
 use Rattle.state.specs.declared.Engine.{Engine}
@@ -37,13 +39,15 @@ use Rattle.big_endian.specs.Numbers.{be16}
 use Rattle.script.specs.Table.{kindOf, lengthOf, lawful}
 use Rattle.script.specs.Field.{misplaced, unknown, readOf}
 use Rattle.script.specs.declared.fields.Field.{Field}
+use Rattle.script.specs.declared.Read.the-variants as R
 use Rattle.script_steps.specs.declared.Run.{Run}
 use Rattle.script_steps.specs.Steps.{stepOf}
 use Rattle.text.specs.Put.{bufferOf}
 use Rattle.script_writer.specs.Encoded.{encoded}
 use Rattle.script_writer.specs.Written.{writtenOf}
 use Rattle.listing.specs.Listed.{roomFor, listedOf, leftIn}
-use Rattle.listing.specs.Turns.{turnsOf}
+use Rattle.listing.specs.declared.lines.Line.the-variants as L
+use Rattle.listing.specs.Turns.{turnOf, turnsOf}
 use Rattle.entry.specs.Entry.{entryAnswer, entryBytes}
 use Rattle.promises.specs.Tests.{Row, firstOf, Given, badRate, badSlot, pastLimit, badSeconds, badRecord, testsOf, replyNumber, readNumber, listedNumber, recordNumber, foundNumber, Kept}
 use Rattle.promises.specs.Triggers.{Places, answered, Settled}
@@ -120,21 +124,25 @@ pub record Demand1 : Type 0 where
       ∷ [])
   pub masks-leave : (script : List ℕ) (size : ℕ) (depth : Float) (out : List ℕ) (at : ℕ) → (filedNumber (masksOf script size depth out at .0) ≡ 0 → ⊥) → masksOf script size depth out at .1 ≡ out
   -- a field of a script, at the start of s: the first one or a later one. A script that ends where a later field could begin is not bad.
+  -- order 3: 14 header cut, 15 length not the tag's, 16 value cut
   pub field : (s : List ℕ) (first : Bool)
       → readNumber (readOf s first)
       ≡ firstOf
       ((eqb (length s) 0 && first, 11)
       ∷ (eqb (length s) 0, 0)
-      ∷ (ltb (length s) 3, 9)
+      ∷ (ltb (length s) 3, 14)
       ∷ (misplaced (getD s 0 0) first, 11)
       ∷ (unknown (getD s 0 0), 8)
-      ∷ (not (eqb (be16 s 1) (lengthOf (kindOf (getD s 0 0)))), 9)
-      ∷ (not (leb (lengthOf (kindOf (getD s 0 0))) (length s - 3)), 9)
+      ∷ (not (eqb (be16 s 1) (lengthOf (kindOf (getD s 0 0)))), 15)
+      ∷ (not (leb (lengthOf (kindOf (getD s 0 0))) (length s - 3)), 16)
       ∷ (not (lawful (kindOf (getD s 0 0)) (drop 3 s)), 10)
       ∷ [])
+  -- and the place that it is told with, in a script that has it at `at`: that of its tag, or the end of the script where the header is cut
+  pub field-place : (before : Run) (n at : ℕ) (s : List ℕ) (r : Refusal) → readOf (drop at s) (eqb n 1) ≡ R.Bad r
+      → turnOf before n at s .line ≡ L.Bad n r (pick (eqb (numberOf r) 14) (length s) at)
   -- the engine's answer to a field. `seek`, note input, `reset` and `reserve_trigger` hand back an engine, `elapsed_samples` and `active_count` a number, and no answer beside it: they can't refuse, and nor do their fields.
   pub step : (before : Run) (f : Field) → replyNumber (stepOf before f .reply) ≡ firstOf (testsOf (before .engine) f)
-  -- a whole script: where it stops, with which number, and that it goes on until then
+  -- a whole script: where it stops, with which number and which place, and that it goes on until then
   pub script : (s : List ℕ) → Stops s
   -- a whole script, for a host: 5, 12, or the number of the field that stopped it
   pub entry : (s o : List ℕ) → answerOf (entryAnswer s o) ≡ firstOf ((not (eqb (length o) 2308), 5) ∷ (not (leb (length s) 60000), 12) ∷ stopRows s)

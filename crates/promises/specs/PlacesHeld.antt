@@ -36,7 +36,7 @@ abbrev pub tellingOf : ℕ → Line → Line
 tellingOf n L.Nothing = L.Nothing
 tellingOf n (L.Frame k v) = L.Frame k (withActive n v)
 tellingOf n (L.Refused k r) = L.Refused k r
-tellingOf n (L.Bad k r) = L.Bad k r
+tellingOf n (L.Bad k r p) = L.Bad k r p
 tellingOf n (L.End k) = L.End k
 
 -- a turn's line, with the places walked for it

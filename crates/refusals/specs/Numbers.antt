@@ -1,7 +1,7 @@
 -- The numbers of the refusals, 01's and behind them 02's, and of an answer. Definitions only.
 use Prim.Native.Nat.{ℕ}
 use Rattle.refusals.specs.declared.Refusal.{Refusal}
-use Rattle.refusals.specs.declared.Refusal.the-variants.{Rate, Slot, Size, Elapsed, Lengths, Logs, Seconds, Tag, Cut, Value, Place, Script, Room, Attenuation, Record}
+use Rattle.refusals.specs.declared.Refusal.the-variants.{Rate, Slot, Size, Elapsed, Lengths, Logs, Seconds, Tag, Value, Place, Script, Room, HeaderCut, WrongLength, ValueCut, Attenuation, Record}
 use Rattle.refusals.specs.declared.Answer.{Answer}
 use Rattle.refusals.specs.declared.Answer.the-variants.{Taken, Refused}
 
@@ -22,8 +22,6 @@ numberOf Logs = 6
 numberOf Seconds = 7
 -- script: an unknown tag
 numberOf Tag = 8
--- script: the header cut, a length that is not the tag's, or the value cut
-numberOf Cut = 9
 -- script: a flag, a shape or a direction out of range
 numberOf Value = 10
 -- script: the rate is not first, or comes twice
@@ -32,6 +30,12 @@ numberOf Place = 11
 numberOf Script = 12
 -- 02, order 2: the lent buffer has too few free bytes
 numberOf Room = 13
+-- 02, order 3: script: the header is cut
+numberOf HeaderCut = 14
+-- 02, order 3: script: the length is not the tag's
+numberOf WrongLength = 15
+-- 02, order 3: script: the value is cut
+numberOf ValueCut = 16
 -- 02, order 5: the attenuation at some bin is a NaN
 numberOf Attenuation = 18
 -- 02, order 5: a bin count outside 1 to 8,193, or bytes that are no record of a mask file

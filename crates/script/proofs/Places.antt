@@ -9,14 +9,9 @@ use lib.Dec.{eqb}
 use Rattle.refusals.specs.declared.Refusal.{Refusal}
 use Rattle.script.specs.declared.Read.the-variants as R
 use Rattle.script.specs.Field.{readOf}
-use Rattle.script.specs.Reading.{Reading, Placed, ended, bad}
+use Rattle.script.specs.Reading.{Reading, Placed, sizes, ended, bad}
 use Rattle.script.proofs.Steps.{Reads, field, wrong, end}
 use Rattle.script.proofs.Whole.{end-is-empty}
-
--- how many bytes fields take together
-abbrev pub sizes : List Placed → ℕ
-sizes [] = 0
-sizes (p ∷ ps) = p .size + sizes ps
 
 -- the bytes of a field, and of fields in a row
 abbrev pub ownBytes : List ℕ → Placed → List ℕ

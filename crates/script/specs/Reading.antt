@@ -21,6 +21,11 @@ pub data Verdict : Type 0 where
   ended : Verdict
   bad : Refusal → Verdict
 
+-- how many bytes fields take together
+abbrev pub sizes : List Placed → ℕ
+sizes [] = 0
+sizes (p ∷ ps) = p .size + sizes ps
+
 -- the fields that were taken; then the place where the reader stopped, and why
 pub record Reading : Type 0 where
   pub fields : List Placed

@@ -18,11 +18,13 @@ pub fn body_of(kind: Kind, s: &[u8]) -> Read
     let row = tags::row_of(kind, v);
     let n = row.length;
     let said = be16_at(s, 1) as usize;
-    if said != n {
-        return Read::Bad(Refusal::Cut);
+    let wrong = said != n;
+    let cut = s.len() - 3 < n;
+    if wrong {
+        return Read::Bad(Refusal::WrongLength);
     }
-    if s.len() - 3 < n {
-        return Read::Bad(Refusal::Cut);
+    if cut {
+        return Read::Bad(Refusal::ValueCut);
     }
     if row.lawful {
         let field = row.field;

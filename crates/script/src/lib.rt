@@ -45,7 +45,7 @@ fn read_header(script: &[u8], first: bool) -> Read
     let misplaced = is_misplaced(tag, first);
     let unknown = is_unknown(tag);
     if cut {
-        return Read::Bad(Refusal::Cut);
+        return Read::Bad(Refusal::HeaderCut);
     }
     if misplaced {
         return Read::Bad(Refusal::Place);

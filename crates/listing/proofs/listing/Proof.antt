@@ -37,7 +37,7 @@ same-length-2 c = search needs
 
 returns-2 : tie.Need-returns-2
 unfolding printed
-returns-2 c = rw (lt-leb _ _ (c .before .before .before .before .if1 .left), append-nil) (written (L.Bad 0 Script) (c .before .before .put-line .ensures))
+returns-2 c = rw (lt-leb _ _ (c .before .before .before .before .if1 .left), append-nil) (written (L.Bad 0 Script 0) (c .before .before .put-line .ensures))
 
 pub listing-spec : {M : Type 1} → statement M
 listing-spec =

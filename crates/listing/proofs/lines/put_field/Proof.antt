@@ -23,21 +23,15 @@ number-requires c κs = search needs
 put-dec-requires-2 : tie.Need-put-dec-requires-2
 put-dec-requires-2 c κs = search needs
 
-slice-aggregate-put-2 : tie.Need-slice-aggregate-put-2
-slice-aggregate-put-2 c = search needs
-
-put-requires-3 : tie.Need-put-requires-3
-put-requires-3 c κs = search needs
-
 same-length : tie.Need-same-length
 same-length c = search needs
 
 returns : tie.Need-returns
 unfolding fieldPieces
 returns c =
-    let word = next (next (one (c .before .before .before .before .before .before .before .before .before .before .before .before .before .before .before .before .before .before .before .before .put .ensures)) (one (c .before .before .before .before .before .before .before .before .before .before .before .before .before .before .before .before .put-dec .ensures))) (one (c .before .before .before .before .before .before .before .before .before .before .before .before .put2 .ensures)) in
-    let number = one (rw (c .before .before .before .before .before .before .before .before .number .ensures) at (c .before .before .before .before .before .before .before .put-dec2 .ensures)) in
-    let all = next (next word number) (one (c .before .before .put3 .ensures)) in
+    let word = next (next (one (c .before .before .before .before .before .before .before .before .before .before .before .before .before .before .before .put .ensures)) (one (c .before .before .before .before .before .before .before .before .before .before .before .put-dec .ensures))) (one (c .before .before .before .before .before .before .before .put2 .ensures)) in
+    let number = one (rw (c .before .before .before .number .ensures) at (c .before .before .put-dec2 .ensures)) in
+    let all = next word number in
     (all .place, all .buffer)
 
 pub put-field-spec : {M : Type 1} → statement M
@@ -50,7 +44,5 @@ put-field-spec =
     put-requires-2
     number-requires
     put-dec-requires-2
-    slice-aggregate-put-2
-    put-requires-3
     same-length
     returns)

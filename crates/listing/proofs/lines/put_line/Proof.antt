@@ -17,20 +17,14 @@ put-frame-requires c κs = search needs
 enum-known-line-2 : tie.Need-enum-known-line-2
 enum-known-line-2 c = search needs
 
-slice-aggregate-put-field : tie.Need-slice-aggregate-put-field
-slice-aggregate-put-field c = search needs
-
-put-field-requires : tie.Need-put-field-requires
-put-field-requires c κs = search needs
+put-refused-requires : tie.Need-put-refused-requires
+put-refused-requires c κs = search needs
 
 enum-known-line-3 : tie.Need-enum-known-line-3
 enum-known-line-3 c = search needs
 
-slice-aggregate-put-field-2 : tie.Need-slice-aggregate-put-field-2
-slice-aggregate-put-field-2 c = search needs
-
-put-field-requires-2 : tie.Need-put-field-requires-2
-put-field-requires-2 c κs = search needs
+put-bad-requires : tie.Need-put-bad-requires
+put-bad-requires c κs = search needs
 
 enum-known-line-4 : tie.Need-enum-known-line-4
 enum-known-line-4 c = search needs
@@ -52,13 +46,13 @@ same-length-2 : tie.Need-same-length-2
 same-length-2 c = search needs
 
 returns-3 : tie.Need-returns-3
-returns-3 c = rw (c .before .before .before .before .before .before .line2 .given .1) (c .before .before .put-field .ensures)
+returns-3 c = rw (c .before .before .before .before .before .line2 .given .1) (c .before .before .put-refused .ensures)
 
 same-length-3 : tie.Need-same-length-3
 same-length-3 c = search needs
 
 returns-4 : tie.Need-returns-4
-returns-4 c = rw (c .before .before .before .before .before .before .line3 .given .1) (c .before .before .put-field2 .ensures)
+returns-4 c = rw (c .before .before .before .before .before .line3 .given .1) (c .before .before .put-bad .ensures)
 
 same-length-4 : tie.Need-same-length-4
 same-length-4 c = search needs
@@ -74,11 +68,9 @@ put-line-spec =
     enum-known-line
     put-frame-requires
     enum-known-line-2
-    slice-aggregate-put-field
-    put-field-requires
+    put-refused-requires
     enum-known-line-3
-    slice-aggregate-put-field-2
-    put-field-requires-2
+    put-bad-requires
     enum-known-line-4
     put-end-requires
     returns

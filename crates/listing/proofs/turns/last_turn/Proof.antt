@@ -22,7 +22,7 @@ returns : tie.Need-returns
 returns c =
     let s = c .before .before .before .before .args .script .now in
     let top : length s + 1 < 2 ^ 64 = omega (arith, c .before .before .before .before .good .0) in
-    ap (λ (r : Reached). r .turn) (c .before .take-turns .ensures ∙ ap (λ (run : Run). reachedOf U.End run 1 s) (c .before .before .fresh .ensures)) ∙ script-turn s top
+    ap (λ (r : Reached). r .turn) (c .before .take-turns .ensures ∙ ap (λ (run : Run). reachedOf U.End run 1 0 s) (c .before .before .fresh .ensures)) ∙ script-turn s top
 
 pub last-turn-spec : {M : Type 1} → statement M
 last-turn-spec = tie.close (tie.spec fresh-requires take-turns-requires returns)

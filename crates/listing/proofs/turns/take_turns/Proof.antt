@@ -3,9 +3,9 @@ use Prim.Native.Nat.{ℕ, _+_, _-_, _≤_}
 use native.Mathlib.Omega.{arith}
 use mathlib.Core.Path.{_≡_, sym, ap, _∙_, subst}
 use mathlib.Core.Logic.{⊎-elim}
-use lib.ListN.{length, drop}
-use borrow.Author.Needs.{needs}
+use lib.ListN.{length}
 use Rattle.script.proofs.Part.{rest}
+use borrow.Author.Needs.{needs}
 use Rattle.script_steps.specs.Steps.{stepOf}
 use Rattle.script_steps.specs.declared.Run.{Run}
 use Rattle.engine_triggers.specs.declared.Reserved.{Reserved}
@@ -40,15 +40,16 @@ use Rattle.listing.proofs.turns.goes_on.Reads as goes-on-reads
 use Rattle.std.proofs.num.wrapping_add_u64.Reads as wrapping-add-u64-reads
 use Rattle.listing.proofs.turns.told.Reads as told-reads
 use Rattle.listing.proofs.turns.reach.Reads as reach-reads
+use Rattle.listing.proofs.turns.bad_place.Reads as bad-place-reads
 use Rattle.listing.proofs.turns.before.Reads as before-reads
 use Rattle.listing.proofs.turns.take_turns.Reads as reads
 use Rattle.listing.proofs.turns.take_turns.Lts as lts
 
 abbrev Inv-loop : tie.InvT-loop
-Inv-loop until n s engine₀ frame₀ n₀ at₀ engine frame n' at = Going until s (record { engine = engine₀; frame = frame₀ }) n (record { engine = engine; frame = frame }) n' at
+Inv-loop until n at script engine₀ frame₀ n₀ at₀ engine frame n' at' = Going until script (record { engine = engine₀; frame = frame₀ }) n at (record { engine = engine; frame = frame }) n' at'
 
 abbrev μ-loop : tie.MeasureT-loop
-μ-loop until n s engine₀ frame₀ n₀ at₀ engine frame n' at = length s - at
+μ-loop until n at script engine₀ frame₀ n₀ at₀ engine frame n' at' = length script - at'
 
 -- what the calls ask and tell, as the walk of the code takes them
 abbrev claims : lts.Claims
@@ -97,6 +98,8 @@ claims = (
   told-reads.Learnt,
   reach-reads.Asked,
   reach-reads.Learnt,
+  bad-place-reads.Asked,
+  bad-place-reads.Learnt,
   before-reads.Asked,
   before-reads.Learnt,
 )
@@ -128,11 +131,14 @@ stepped c =
 -- the turn of the field
 turned : (c : lts.After-replied claims reads.Pre reads.Post Inv-loop μ-loop)
     → toldOf (record { engine = c .before .match2 .engine; frame = c .before .match2 .frame }) (c .replied .result .line) (c .replied .result .taken)
-    ≡ turnOf (record { engine = c .before .before .before .before .before .before .before .loop .engine; frame = c .before .before .before .before .before .before .before .loop .frame }) (c .before .before .before .before .before .before .before .loop .n) (drop (c .before .before .before .before .before .before .before .loop .at) (c .before .before .before .before .before .before .before .before .before .before .before .args .s .now))
-turned c = turn-of _ _ _ _ (rw (rest (c .before .before .before .before .before .before .before .loop .at) (c .before .before .before .before .before .before .before .before .before .before .before .args .s .now)) at (c .before .before .before .before .before .read-field .ensures)) _ _ _ _ _ _ (c .before .before .before .read .given .1) (stepped (c .before)) (c .replied .ensures)
+    ≡ turnOf (record { engine = c .before .before .before .before .before .before .before .loop .engine; frame = c .before .before .before .before .before .before .before .loop .frame }) (c .before .before .before .before .before .before .before .loop .n) (c .before .before .before .before .before .before .before .loop .at) (c .before .before .before .before .before .before .before .before .before .before .before .args .script .now)
+turned c =
+    let at = c .before .before .before .before .before .before .before .loop .at in
+    let s = c .before .before .before .before .before .before .before .before .before .before .before .args .script .now in
+    turn-of _ _ at s _ (rw (rest at s) at (c .before .before .before .before .before .read-field .ensures)) _ _ _ _ _ _ (c .before .before .before .read .given .1) (stepped (c .before)) (c .replied .ensures)
 
 loop-holds : tie.Need-loop-holds Inv-loop μ-loop
-loop-holds c = going-start (c .before .before .before .args .until) (c .before .before .before .args .s .now) (c .before .before .before .args .run) (c .before .before .before .args .n)
+loop-holds c = let a = c .before .before .before .args in going-start (a .until) (a .script .now) (a .run) (a .n) (a .at) (c .before .before .before .pre)
 
 sub-read-field : tie.Need-sub-read-field Inv-loop μ-loop
 sub-read-field c = let fits = c .loop .inv .within in omega arith
@@ -290,9 +296,9 @@ add-at c =
     let l = c .before .before .before .before .before .before .before .before .before .loop in
     let run : Run = record { engine = l .engine; frame = l .frame } in
     let eq = turned (c .before .before) in
-    let le : c .before .before .replied .result .taken ≤ length (a .s .now) - l .at = taken-left run (l .n) (l .at) (a .s .now) _ eq in
-    let fits = l .inv .within in
-    omega (arith, le, c .before .before .before .before .before .before .before .before .before .before .before .before .before .good .1 .1 .1 .0)
+    let le : c .before .before .replied .result .taken ≤ length (a .script .now) - l .at = taken-left run (l .n) (l .at) (a .script .now) _ eq in
+    let more = further (a .until) (a .script .now) (a .run) (a .n) (a .at) run (l .n) (l .at) (l .inv) _ eq (sym (c .before .goes-on .ensures) ∙ c .if1 .taken) in
+    omega (arith, le, c .before .before .before .before .before .before .before .before .before .before .before .before .before .good .1 .1 .1 .1 .0)
 
 wrapping-add-u64-requires : tie.Need-wrapping-add-u64-requires Inv-loop μ-loop
 wrapping-add-u64-requires c κs = search needs
@@ -303,9 +309,8 @@ loop-less c =
     let l = c .before .before .before .before .before .before .before .before .before .before .loop in
     let run : Run = record { engine = l .engine; frame = l .frame } in
     let eq = turned (c .before .before .before) in
-    let le : c .before .before .before .replied .result .taken ≤ length (a .s .now) - l .at = taken-left run (l .n) (l .at) (a .s .now) _ eq in
-    let fits = l .inv .within in
-    let more = further (a .until) (a .s .now) (a .run) (a .n) run (l .n) (l .at) (l .inv) _ eq (sym (c .before .before .goes-on .ensures) ∙ c .before .if1 .taken) in
+    let le : c .before .before .before .replied .result .taken ≤ length (a .script .now) - l .at = taken-left run (l .n) (l .at) (a .script .now) _ eq in
+    let more = further (a .until) (a .script .now) (a .run) (a .n) (a .at) run (l .n) (l .at) (l .inv) _ eq (sym (c .before .before .goes-on .ensures) ∙ c .before .if1 .taken) in
     omega arith
 
 loop-again : tie.Need-loop-again Inv-loop μ-loop
@@ -314,7 +319,7 @@ loop-again c =
     let l = c .before .before .before .before .before .before .before .before .before .before .loop in
     let run : Run = record { engine = l .engine; frame = l .frame } in
     let eq = turned (c .before .before .before) in
-    subst (λ (m : ℕ). Going (a .until) (a .s .now) (a .run) (a .n) (record { engine = c .before .before .before .before .match2 .engine; frame = c .before .before .before .before .match2 .frame }) m (l .at + c .before .before .before .replied .result .taken)) (sym (c .wrapping-add-u64 .ensures)) (going-on (a .until) (a .s .now) (a .run) (a .n) run (l .n) (l .at) (l .inv) _ eq (sym (c .before .before .goes-on .ensures) ∙ c .before .if1 .taken))
+    subst (λ (m : ℕ). Going (a .until) (a .script .now) (a .run) (a .n) (a .at) (record { engine = c .before .before .before .before .match2 .engine; frame = c .before .before .before .before .match2 .frame }) m (l .at + c .before .before .before .replied .result .taken)) (sym (c .wrapping-add-u64 .ensures)) (going-on (a .until) (a .script .now) (a .run) (a .n) (a .at) run (l .n) (l .at) (l .inv) _ eq (sym (c .before .before .goes-on .ensures) ∙ c .before .if1 .taken))
 
 told-requires : tie.Need-told-requires Inv-loop μ-loop
 told-requires c κs = search needs
@@ -328,10 +333,13 @@ returns c =
     let l = c .before .before .before .before .before .before .before .before .before .before .before .loop in
     let run : Run = record { engine = l .engine; frame = l .frame } in
     let eq = turned (c .before .before .before .before) in
-    c .reach .ensures ∙ ap (λ (t : Turn). reachedAt t (l .n) (l .at)) (c .before .told .ensures) ∙ going-ends (a .until) (a .s .now) (a .run) (a .n) run (l .n) (l .at) (l .inv) _ eq (sym (c .before .before .before .goes-on .ensures) ∙ c .before .before .if1 .left)
+    c .reach .ensures ∙ ap (λ (t : Turn). reachedAt t (l .n) (l .at)) (c .before .told .ensures) ∙ going-ends (a .until) (a .script .now) (a .run) (a .n) (a .at) run (l .n) (l .at) (l .inv) _ eq (sym (c .before .before .before .goes-on .ensures) ∙ c .before .before .if1 .left)
 
 enum-known-read-2 : tie.Need-enum-known-read-2 Inv-loop μ-loop
 enum-known-read-2 c = c .match .keys2
+
+bad-place-requires : tie.Need-bad-place-requires Inv-loop μ-loop
+bad-place-requires c κs = search needs
 
 told-requires-2 : tie.Need-told-requires-2 Inv-loop μ-loop
 told-requires-2 c κs = search needs
@@ -341,11 +349,13 @@ reach-requires-2 c κs = search needs
 
 returns-2 : tie.Need-returns-2 Inv-loop μ-loop
 returns-2 c =
-    let a = c .before .before .before .before .before .before .before .before .before .before .before .args in
-    let l = c .before .before .before .before .before .before .before .loop in
+    let a = c .before .before .before .before .before .before .before .before .before .before .before .before .args in
+    let l = c .before .before .before .before .before .before .before .before .loop in
     let run : Run = record { engine = l .engine; frame = l .frame } in
-    let eq = turn-as run (l .n) _ _ (rw (rest (l .at) (a .s .now)) at (c .before .before .before .before .before .read-field .ensures)) _ (c .before .before .before .read2 .given .1) in
-    c .reach2 .ensures ∙ ap (λ (t : Turn). reachedAt t (l .n) (l .at)) (c .before .told2 .ensures) ∙ going-ends (a .until) (a .s .now) (a .run) (a .n) run (l .n) (l .at) (l .inv) _ eq (none-ends (a .until) _)
+    let is = rw (rest (l .at) (a .script .now)) at (c .before .before .before .before .before .before .read-field .ensures) in
+    let eq = turn-as run (l .n) (l .at) (a .script .now) _ is _ (c .before .before .before .before .read2 .given .1) in
+    let told = c .before .told2 .ensures ∙ ap (λ (p : ℕ). toldOf run (L.Bad (l .n) (c .before .before .before .before .read2 .given .0 .0) p) 0) (c .before .before .bad-place .ensures) in
+    c .reach2 .ensures ∙ ap (λ (t : Turn). reachedAt t (l .n) (l .at)) told ∙ going-ends (a .until) (a .script .now) (a .run) (a .n) (a .at) run (l .n) (l .at) (l .inv) _ eq (none-ends (a .until) _)
 
 enum-told-4 : tie.Need-enum-told-4 Inv-loop μ-loop
 enum-told-4 c = c .match .keys3
@@ -364,8 +374,10 @@ returns-3 c =
     let a = c .before .before .before .before .before .before .before .before .before .before .before .args in
     let l = c .before .before .before .before .before .before .before .loop in
     let run : Run = record { engine = l .engine; frame = l .frame } in
-    let eq = turn-as run (l .n) _ _ (rw (rest (l .at) (a .s .now)) at (c .before .before .before .before .before .read-field .ensures)) _ (c .before .before .before .enum-told4 .given .1) in
-    c .reach3 .ensures ∙ ap (λ (t : Turn). reachedAt t (l .n) (l .at)) (c .before .told3 .ensures ∙ ap (λ (x : ℕ). toldOf run (L.End x) 0) (c .before .before .before2 .ensures)) ∙ going-ends (a .until) (a .s .now) (a .run) (a .n) run (l .n) (l .at) (l .inv) _ eq (none-ends (a .until) _)
+    let is = rw (rest (l .at) (a .script .now)) at (c .before .before .before .before .before .read-field .ensures) in
+    let eq = turn-as run (l .n) (l .at) (a .script .now) _ is _ (c .before .before .before .enum-told4 .given .1) in
+    let told = c .before .told3 .ensures ∙ ap (λ (x : ℕ). toldOf run (L.End x) 0) (c .before .before .before2 .ensures) in
+    c .reach3 .ensures ∙ ap (λ (t : Turn). reachedAt t (l .n) (l .at)) told ∙ going-ends (a .until) (a .script .now) (a .run) (a .n) (a .at) run (l .n) (l .at) (l .inv) _ eq (none-ends (a .until) _)
 
 pub take-turns-spec : {M : Type 1} → statement M
 take-turns-spec =
@@ -432,6 +444,7 @@ take-turns-spec =
     reach-requires
     returns
     enum-known-read-2
+    bad-place-requires
     told-requires-2
     reach-requires-2
     returns-2

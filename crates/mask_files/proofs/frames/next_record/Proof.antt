@@ -1,41 +1,23 @@
 -- `next_record` meets its contract: the next frame's record, or the last line.
-use mathlib.Core.Path.{refl, ap, _∙_}
+use mathlib.Core.Path.{refl}
 use native.Mathlib.Omega.{arith}
-use Rattle.script.proofs.Part.{rest}
 use Rattle.listing.specs.declared.lines.Line.the-variants as L
-use Rattle.listing.specs.declared.turns.Until.the-variants as U
-use Rattle.listing.specs.Reaching.{reachedOf}
 use Rattle.mask_files.proofs.Steps.{reach-fits}
 use Rattle.mask_files.proofs.Ways.{frame-step, last-step}
 use borrow.Author.Needs.{needs}
 use Rattle.mask_files.proofs.frames.next_record.Statement.{statement}
 use Rattle.mask_files.proofs.frames.next_record.Tie as tie
 
-inside-requires : tie.Need-inside-requires
-inside-requires c κs = search needs
-
-sub-next-frame : tie.Need-sub-next-frame
-sub-next-frame c = search needs
-
-part-next-frame-start : tie.Need-part-next-frame-start
-part-next-frame-start c = search needs
-
-part-next-frame-end : tie.Need-part-next-frame-end
-part-next-frame-end c = search needs
-
 next-frame-requires : tie.Need-next-frame-requires
 next-frame-requires c κs = search needs
 
 behind-requires : tie.Need-behind-requires
 behind-requires c κs =
-    let a = c .before .before .before .before .before .before .before .before .args in
+    let a = c .before .before .before .before .before .before .args in
     let f = c .next-frame in
-    let i = c .before .before .before .inside in
     let s = a .script .now in
-    let eq = f .ensures ∙ ap (reachedOf U.Frame (a .walk .run) (a .walk .n)) (rest (i .result) s ∙ i .ensures .1) in
-    let fit = reach-fits (a .walk) s (f .result) eq in
-    let g = c .before .before .before .before .before .before .before .before .good in
-    omega (arith, fit, g .0 .1 .1, g .1 .0)
+    let eq = f .ensures in
+    omega (arith, reach-fits (a .walk) s (f .result) eq, c .before .before .before .before .before .before .good .1 .0)
 
 enum-known-line : tie.Need-enum-known-line
 enum-known-line c = search needs
@@ -66,52 +48,47 @@ same-length-2 c = search needs
 
 returns : tie.Need-returns
 returns c =
-    let a = c .before .before .before .before .before .before .before .before .before .before .before .before .before .before .before .before .before .before .before .before .before .before .before .args in
+    let a = c .before .before .before .before .before .before .before .before .before .before .before .before .before .before .before .before .before .before .before .before .before .args in
     let f = c .before .before .before .before .before .before .before .before .before .before .before .before .before .before .before .next-frame in
-    let i = c .before .before .before .before .before .before .before .before .before .before .before .before .before .before .before .before .before .before .inside in
     let s = a .script .now in
-    let eq = f .ensures ∙ ap (reachedOf U.Frame (a .walk .run) (a .walk .n)) (rest (i .result) s ∙ i .ensures .1) in
+    let eq = f .ensures in
     let after = c .before .before .before .before .before .before .before .before .before .before .before .before .before .before .behind .ensures in
     let w = c .before .before .before .before .before .write-record in
     frame-step (a .walk) s (a .depth-db) (a .logs .now) (a .scratch .now) (a .out .now) (a .at) (f .result) eq _ after _ _ (w .result) (w .last .1 .1 .1 .1 .0) (w .last .1 .1 .1 .1 .1 .0) _ (c .before .before .before .before .before .before .before .before .before .before .before .line .given .1) (w .ensures) (c .made .ensures)
 
 returns-2 : tie.Need-returns-2
 returns-2 c =
-    let a = c .before .before .before .before .before .before .before .before .before .before .before .before .args in
+    let a = c .before .before .before .before .before .before .before .before .before .before .args in
     let f = c .before .before .before .before .next-frame in
-    let i = c .before .before .before .before .before .before .before .inside in
     let s = a .script .now in
-    let eq = f .ensures ∙ ap (reachedOf U.Frame (a .walk .run) (a .walk .n)) (rest (i .result) s ∙ i .ensures .1) in
+    let eq = f .ensures in
     let after = c .before .before .before .behind .ensures in
     last-step (a .walk) s (a .depth-db) (a .logs .now) (a .scratch .now) (a .out .now) (a .at) (f .result) eq _ after L.Nothing (c .enum-told .given .1) refl
 
 returns-3 : tie.Need-returns-3
 returns-3 c =
-    let a = c .before .before .before .before .before .before .before .before .before .before .before .before .before .args in
+    let a = c .before .before .before .before .before .before .before .before .before .before .before .args in
     let f = c .before .before .before .before .before .next-frame in
-    let i = c .before .before .before .before .before .before .before .before .inside in
     let s = a .script .now in
-    let eq = f .ensures ∙ ap (reachedOf U.Frame (a .walk .run) (a .walk .n)) (rest (i .result) s ∙ i .ensures .1) in
+    let eq = f .ensures in
     let after = c .before .before .before .before .behind .ensures in
     last-step (a .walk) s (a .depth-db) (a .logs .now) (a .scratch .now) (a .out .now) (a .at) (f .result) eq _ after (L.Refused _ _) (c .before .line2 .given .1) refl
 
 returns-4 : tie.Need-returns-4
 returns-4 c =
-    let a = c .before .before .before .before .before .before .before .before .before .before .before .before .before .args in
+    let a = c .before .before .before .before .before .before .before .before .before .before .before .args in
     let f = c .before .before .before .before .before .next-frame in
-    let i = c .before .before .before .before .before .before .before .before .inside in
     let s = a .script .now in
-    let eq = f .ensures ∙ ap (reachedOf U.Frame (a .walk .run) (a .walk .n)) (rest (i .result) s ∙ i .ensures .1) in
+    let eq = f .ensures in
     let after = c .before .before .before .before .behind .ensures in
-    last-step (a .walk) s (a .depth-db) (a .logs .now) (a .scratch .now) (a .out .now) (a .at) (f .result) eq _ after (L.Bad _ _) (c .before .line3 .given .1) refl
+    last-step (a .walk) s (a .depth-db) (a .logs .now) (a .scratch .now) (a .out .now) (a .at) (f .result) eq _ after (L.Bad _ _ _) (c .before .line3 .given .1) refl
 
 returns-5 : tie.Need-returns-5
 returns-5 c =
-    let a = c .before .before .before .before .before .before .before .before .before .before .before .before .before .args in
+    let a = c .before .before .before .before .before .before .before .before .before .before .before .args in
     let f = c .before .before .before .before .before .next-frame in
-    let i = c .before .before .before .before .before .before .before .before .inside in
     let s = a .script .now in
-    let eq = f .ensures ∙ ap (reachedOf U.Frame (a .walk .run) (a .walk .n)) (rest (i .result) s ∙ i .ensures .1) in
+    let eq = f .ensures in
     let after = c .before .before .before .before .behind .ensures in
     last-step (a .walk) s (a .depth-db) (a .logs .now) (a .scratch .now) (a .out .now) (a .at) (f .result) eq _ after (L.End _) (c .before .line4 .given .1) refl
 
@@ -119,10 +96,6 @@ pub next-record-spec : {M : Type 1} → statement M
 next-record-spec =
     tie.close
     (tie.spec
-    inside-requires
-    sub-next-frame
-    part-next-frame-start
-    part-next-frame-end
     next-frame-requires
     behind-requires
     enum-known-line

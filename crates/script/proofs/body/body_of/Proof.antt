@@ -1,5 +1,9 @@
 -- `body_of` meets its contract: the tests in order.
-use borrow.Author.Tests.{eq-eqb, ne-eqb, le-leb, lt-leb}
+use Prim.Native.Nat.{_-_}
+use native.Mathlib.Omega.{arith}
+use lib.Dec.{eqb}
+use lib.ListN.{length}
+use borrow.Author.Tests.{le-leb, lt-leb, ltb-true, ltb-false, not-true, not-false}
 use Rattle.script.specs.Field.{bodyOf}
 use Rattle.script.proofs.Part.{rest}
 use borrow.Author.Needs.{needs}
@@ -24,33 +28,47 @@ be16-at-requires c κs = search needs
 cast-said : tie.Need-cast-said
 cast-said c = search needs
 
+sub-cut : tie.Need-sub-cut
+sub-cut c = search needs
+
 returns : tie.Need-returns
 unfolding bodyOf
-returns c = rw (← c .before .be16-at .ensures, ← c .before .before .row-of .ensures .0, ne-eqb _ _ (c .if1 .taken))
-
-sub-if2 : tie.Need-sub-if2
-sub-if2 c = search needs
+returns c =
+    let said = c .before .be16-at .result in
+    let n = c .before .before .row-of .result .length in
+    rw (← c .before .be16-at .ensures, ← c .before .before .row-of .ensures .0, not-true (eqb said n) (c .if1 .taken))
 
 returns-2 : tie.Need-returns-2
 unfolding bodyOf
-returns-2 c = rw (← c .before .before .be16-at .ensures, ← c .before .before .before .row-of .ensures .0, eq-eqb _ _ (c .before .if1 .left), lt-leb _ _ (c .if2 .taken))
+returns-2 c =
+    let s = c .before .before .before .before .before .before .args .s .now in
+    let said = c .before .before .be16-at .result in
+    let n = c .before .before .before .row-of .result .length in
+    rw (← c .before .before .be16-at .ensures, ← c .before .before .before .row-of .ensures .0, not-false (eqb said n) (c .before .if1 .left), lt-leb n (length s - 3) (ltb-true (length s - 3) n (c .if2 .taken)))
 
-add-t17 : tie.Need-add-t17
-add-t17 c = search needs
+add-t19 : tie.Need-add-t19
+add-t19 c =
+    let s = c .before .before .before .before .before .before .before .args .s .now in
+    let n = c .before .before .before .before .row-of .result .length in
+    omega (arith, ltb-false (length s - 3) n (c .before .if2 .left), c .before .before .before .before .before .before .before .good .1 .0)
 
 returns-3 : tie.Need-returns-3
 unfolding bodyOf
 returns-3 c =
     let s = c .before .before .before .before .before .before .before .args .s .now in
+    let said = c .before .before .before .be16-at .result in
+    let n = c .before .before .before .before .row-of .result .length in
     let row = rw (rest 3 s) at (c .before .before .before .before .row-of .ensures) in
-    rw (← c .before .before .before .be16-at .ensures, ← row .0, eq-eqb _ _ (c .before .before .if1 .left), le-leb _ _ (c .before .if2 .left), ← row .1, c .if3 .taken, ← row .2)
+    rw (← c .before .before .before .be16-at .ensures, ← row .0, not-false (eqb said n) (c .before .before .if1 .left), le-leb n (length s - 3) (ltb-false (length s - 3) n (c .before .if2 .left)), ← row .1, c .if3 .taken, ← row .2)
 
 returns-4 : tie.Need-returns-4
 unfolding bodyOf
 returns-4 c =
     let s = c .before .before .before .before .before .before .before .args .s .now in
+    let said = c .before .before .before .be16-at .result in
+    let n = c .before .before .before .before .row-of .result .length in
     let row = rw (rest 3 s) at (c .before .before .before .before .row-of .ensures) in
-    rw (← c .before .before .before .be16-at .ensures, ← row .0, eq-eqb _ _ (c .before .before .if1 .left), le-leb _ _ (c .before .if2 .left), ← row .1, c .if3 .left)
+    rw (← c .before .before .before .be16-at .ensures, ← row .0, not-false (eqb said n) (c .before .before .if1 .left), le-leb n (length s - 3) (ltb-false (length s - 3) n (c .before .if2 .left)), ← row .1, c .if3 .left)
 
 pub body-of-spec : {M : Type 1} → statement M
 body-of-spec =
@@ -62,9 +80,9 @@ body-of-spec =
     row-of-requires
     be16-at-requires
     cast-said
+    sub-cut
     returns
-    sub-if2
     returns-2
-    add-t17
+    add-t19
     returns-3
     returns-4)
