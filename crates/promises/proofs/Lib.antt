@@ -20,3 +20,4 @@ pub mod Writing
 pub mod Follow
 pub mod Milliseconds
 pub mod Told
+pub mod WhichEnd

@@ -15,3 +15,4 @@ pub mod Tests
 pub mod Triggers
 pub mod Over
 pub mod Milliseconds
+pub mod WhichEnd

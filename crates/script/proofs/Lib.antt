@@ -4,3 +4,4 @@ pub mod Places
 pub mod Script
 pub mod Steps
 pub mod Whole
+pub mod Beginnings
