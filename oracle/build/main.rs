@@ -15,7 +15,13 @@ const SPECTRAL: &str = "plugins/weft/crates/spectral-dsp/src/lib.rs";
 const OIKO: &str = "crates/oiko-dsp/src/lib.rs";
 
 /// The oracle's own reading of 01 and 02 as far as a mutant may change it.
-const READING: [&str; 4] = ["runner.rs", "milliseconds.rs", "tenths.rs", "records.rs"];
+const READING: [&str; 5] = [
+    "field.rs",
+    "runner.rs",
+    "milliseconds.rs",
+    "tenths.rs",
+    "records.rs",
+];
 
 const APPENDED: [&str; 4] = ["workspace.rs", "engine.rs", "snapshot.rs", "open.rs"];
 

@@ -5,7 +5,7 @@ use crate::draws::mixed;
 use crate::part::Part;
 use crate::probes::{Probe, PROBED, PROBES};
 use crate::{
-    elementary, filing, late, lent, marked, masks, ours, rates, reached, recording, scripts,
+    cuts, elementary, filing, late, lent, marked, masks, ours, rates, reached, recording, scripts,
     writing,
 };
 use std::io::{self, Write};
@@ -128,6 +128,7 @@ pub fn compare(count: u64, base: u64, limit: u64, out: &mut impl Write) -> io::R
     filing::compare(count, base, limit, &mut sum)?;
     writing::compare(base, &mut sum)?;
     sum.counted(&rates::compare(base))?;
+    cuts::compare(count, base, &mut sum)?;
     scripts::compare(count, base, limit, &mut sum)?;
     let (cases, differ) = (sum.cases, sum.differ);
     let left_out = match sum.absent {

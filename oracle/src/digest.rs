@@ -6,7 +6,7 @@ use crate::gen::{script, KINDS};
 use crate::original::Engine;
 use crate::records;
 use crate::runner::{run, Answer};
-use crate::{calls, late, listing, masks, rates, recorded};
+use crate::{calls, cuts, late, listing, masks, rates, recorded};
 use std::io::{self, Write};
 
 #[derive(Default)]
@@ -36,7 +36,7 @@ pub fn state_digest<E: Particles>(start: u64, script: &[u8]) -> u64 {
     });
     digest.word(match ended {
         Ok(ended) => ended.count as u64,
-        Err(bad) => u64::from(bad.number) << 32,
+        Err(bad) => u64::from(bad.number) << 32 | bad.place as u64,
     });
     digest.0
 }
@@ -86,6 +86,7 @@ pub fn digest(seeds: u64, out: &mut impl Write) -> io::Result<()> {
             ("attenuation", masks::attenuation_lines(seed, 200)),
             ("records", recorded::lines(seed, 200)),
             ("milliseconds", rates::lines(seed, 200)),
+            ("cuts", cuts::lines(seed)),
             ("calls", calls::lines(seed, 2_000)),
         ] {
             writeln!(out, "{name} {seed} {:016x}", Digest::text(text.as_bytes()))?;

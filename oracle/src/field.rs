@@ -1,4 +1,5 @@
-//! 01, "The event script": one field, its numbers, and how its bytes are read.
+//! 01, "The event script": one field, its numbers, and how its bytes are read. What breaks it is told
+//! apart as order 3 of 02 has it.
 
 #[derive(Clone, Copy, Debug)]
 pub struct Settings {
@@ -34,12 +35,14 @@ pub enum Field {
     Reserved(u16, u64),
 }
 
-/// 01's numbers for a field that stops the script.
+/// The numbers of a field that stops the script, 01's and order 3's.
 pub const TAG: u32 = 8;
-pub const CUT: u32 = 9;
 pub const VALUE: u32 = 10;
 pub const PLACE: u32 = 11;
 pub const LENGTH: u32 = 12;
+pub const HEADER_CUT: u32 = 14;
+pub const WRONG_LENGTH: u32 = 15;
+pub const VALUE_CUT: u32 = 16;
 
 /// The length of each tag's value, by the tag; nothing for an unknown one.
 fn length_of(tag: u8) -> Option<usize> {
@@ -48,22 +51,25 @@ fn length_of(tag: u8) -> Option<usize> {
 }
 
 /// Reads the field at the start of `rest` and hands on what follows it. The order of the tests is
-/// 01's: header cut, place of rate, tag, length or value cut, value.
+/// 01's: header cut, place of rate, tag, length or value cut, value; the length comes before the value.
 pub fn read(rest: &[u8], first: bool) -> Result<(Field, &[u8]), u32> {
-    // 01: an empty script prints `field 1 bad 11`.
+    // 01: an empty script is bad by 11.
     if first && rest.is_empty() {
         return Err(PLACE);
     }
     let [tag, high, low, tail @ ..] = rest else {
-        return Err(CUT);
+        return Err(HEADER_CUT);
     };
     if (*tag == 1) != first {
         return Err(PLACE);
     }
     let length = length_of(*tag).ok_or(TAG)?;
     let stated = usize::from(u16::from_be_bytes([*high, *low]));
-    if stated != length || tail.len() < length {
-        return Err(CUT);
+    if stated != length {
+        return Err(WRONG_LENGTH);
+    }
+    if tail.len() < length {
+        return Err(VALUE_CUT);
     }
     let (value, next) = tail.split_at(length);
     Ok((value_of(*tag, &mut Taker(value))?, next))

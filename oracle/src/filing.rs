@@ -48,7 +48,7 @@ pub fn compare<W: Write>(count: u64, base: u64, limit: u64, sum: &mut Sum<W>) ->
         compare_bad(&mut files);
         compare_files(count, base, limit, &mut files);
     }
-    files.tell(&[0, 1, 3, 8, 9, 10, 11, 12, 13, 18], sum)
+    files.tell(&[0, 1, 3, 8, 10, 11, 12, 13, 14, 15, 16, 18], sum)
 }
 
 /// A script with frames that goes bad in each way, behind them or before: with a NaN for a depth it is
@@ -60,7 +60,15 @@ fn compare_bad(files: &mut Answered) {
         frames.advance(2_000).frame(10.0, 0.04);
     }
     let rate = |rate| Script::at(rate).0;
-    let bad: [&[u8]; 5] = [&[], &[99, 0, 0], &[8, 0], &[10, 0, 1, 2], &rate(8_000.0)];
+    let bad: [&[u8]; 7] = [
+        &[],
+        &[99, 0, 0],
+        &[8, 0],
+        &[8, 0, 3],
+        &[8, 0, 4],
+        &[10, 0, 1, 2],
+        &rate(8_000.0),
+    ];
     for rate in [rate(48_000.0), rate(1.0), Vec::new()] {
         for bad in bad {
             for rest in [[&frames.0, bad].concat(), [bad, &frames.0].concat()] {

@@ -1,5 +1,5 @@
 //! 01's listing: one line for each accepted frame and each refusal, then `end` or `bad`. The
-//! milliseconds are 02's.
+//! milliseconds, and the place of what is bad, are 02's.
 use crate::engine::Particles;
 use crate::field::{read, Field};
 use crate::milliseconds::milliseconds;
@@ -29,7 +29,11 @@ pub fn listing<E: Particles>(start: u64, script: &[u8]) -> String {
     });
     match ended {
         Ok(Ended { count, .. }) => writeln!(text, "end {count}").unwrap(),
-        Err(Bad { field, number }) => writeln!(text, "field {field} bad {number}").unwrap(),
+        Err(Bad {
+            field,
+            number,
+            place,
+        }) => writeln!(text, "field {field} bad {number} at {place}").unwrap(),
     }
     text
 }

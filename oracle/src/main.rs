@@ -4,6 +4,7 @@ mod bits;
 mod bytes;
 mod calls;
 mod compare;
+mod cuts;
 mod digest;
 mod draws;
 mod elementary;
@@ -12,7 +13,6 @@ mod ends;
 mod engine;
 mod events;
 mod exact;
-mod field;
 mod filing;
 mod gen;
 mod late;
@@ -55,7 +55,11 @@ mod plain {
     include!(concat!(env!("OUT_DIR"), "/plain.rs"));
 }
 
-/// 01 around the engine. It goes through the build, so that a mutant may change it.
+/// 01 around the engine, with order 3's numbers and places. It goes through the build, so that a mutant
+/// may change it.
+mod field {
+    include!(concat!(env!("OUT_DIR"), "/field.rs"));
+}
 mod runner {
     include!(concat!(env!("OUT_DIR"), "/runner.rs"));
 }

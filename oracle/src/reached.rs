@@ -4,8 +4,9 @@ use crate::late;
 use crate::original::Engine;
 use crate::runner::{run, Answer};
 
-/// All of 01's numbers but 5 and 6, which no script gives: lent lengths, and the logs of a mask.
-pub const NUMBERS: [u32; 10] = [1, 2, 3, 4, 7, 8, 9, 10, 11, 12];
+/// All numbers that a script gives: 01's but 5 and 6, for lent lengths and the logs of a mask, with order
+/// 3's three in the place of 9.
+pub const NUMBERS: [u32; 12] = [1, 2, 3, 4, 7, 8, 10, 11, 12, 14, 15, 16];
 
 const SEEDS: u64 = 10;
 

@@ -1,6 +1,6 @@
 //! 01's refusals around the original engine, and the run of a whole script.
 use crate::engine::{Frame, Particles};
-use crate::field::{read, Field, LENGTH};
+use crate::field::{read, Field, HEADER_CUT, LENGTH};
 
 /// What a call answers. `Taken` is also a reset or an advance: every call that refuses nothing.
 pub enum Answer {
@@ -24,10 +24,27 @@ impl Answer {
     }
 }
 
-/// The script stops at field `field` with 01's number `number`.
+/// The script stops at field `field` with the number `number`, broken at byte `place`.
 pub struct Bad {
     pub field: usize,
     pub number: u32,
+    pub place: usize,
+}
+
+impl Bad {
+    /// Order 3: the place is that of the field's tag, at which `rest` begins, or the end of the script
+    /// where the header is cut. What refuses a script as a whole finds all of it left.
+    fn new(script: &[u8], rest: &[u8], field: usize, number: u32) -> Self {
+        let place = match number {
+            HEADER_CUT => script.len(),
+            _ => script.len() - rest.len(),
+        };
+        Bad {
+            field,
+            number,
+            place,
+        }
+    }
 }
 
 pub const SCRIPT_LIMIT: usize = 60_000;
@@ -53,16 +70,15 @@ pub fn run<E: Particles>(
     script: &[u8],
     mut see: impl FnMut(usize, &Answer, &E),
 ) -> Result<Ended<E>, Bad> {
-    let bad = |field, number| Bad { field, number };
     if script.len() > SCRIPT_LIMIT {
-        return Err(bad(0, LENGTH));
+        return Err(Bad::new(script, script, 0, LENGTH));
     }
-    let (first, mut rest) = read(script, true).map_err(|n| bad(1, n))?;
+    let (first, mut rest) = read(script, true).map_err(|n| Bad::new(script, script, 1, n))?;
     let Field::Rate(rate) = first else {
         unreachable!("the reader takes a rate first")
     };
     if !rate_passes(rate) {
-        return Err(bad(1, 1));
+        return Err(Bad::new(script, script, 1, 1));
     }
     let mut engine = E::new(rate);
     engine.skip(start);
@@ -70,7 +86,7 @@ pub fn run<E: Particles>(
     see(count, &Answer::Taken, &engine);
     while !rest.is_empty() {
         count += 1;
-        let (field, next) = read(rest, false).map_err(|n| bad(count, n))?;
+        let (field, next) = read(rest, false).map_err(|n| Bad::new(script, rest, count, n))?;
         rest = next;
         let answer = call(&mut engine, field);
         see(count, &answer, &engine);

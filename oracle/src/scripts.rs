@@ -159,7 +159,7 @@ pub fn compare<W: Write>(count: u64, base: u64, limit: u64, sum: &mut Sum<W>) ->
 }
 
 /// The entry's answer and bytes, with so much room.
-fn entry_same(script: &[u8], room: usize) -> Option<bool> {
+pub fn entry_same(script: &[u8], room: usize) -> Option<bool> {
     let (mut want, mut got) = (vec![UNTOUCHED; room], vec![UNTOUCHED; room]);
     let answer = port::last_frame(script, &mut got)?;
     Some(answer == last_frame::<Engine>(script, &mut want) && got == want)

@@ -17,7 +17,11 @@ pub fn state<E: Particles>(start: u64, script: &[u8], out: &mut impl Write) -> i
     trouble?;
     match ended {
         Ok(Ended { count, .. }) => writeln!(out, "end {count}"),
-        Err(Bad { field, number }) => writeln!(out, "field {field} bad {number}"),
+        Err(Bad {
+            field,
+            number,
+            place,
+        }) => writeln!(out, "field {field} bad {number} at {place}"),
     }
 }
 
