@@ -1,4 +1,4 @@
--- WHICH END OF THE FILE IS BROKEN, as it is promised. The number of a bad script tells what to look for: 14 and 16, bytes that are missing at its end; every other, bytes that are wrong where it stopped.
+-- WHICH END OF THE FILE IS BROKEN, as it is promised. Where a script goes bad and is not empty, its number tells what to look for: 14 and 16, bytes that are missing at its end; every other, bytes that are wrong where it stopped.
 use Prim.Native.Nat.{ℕ, _<_}
 use mathlib.Core.Path.{_≡_}
 use mathlib.Core.Logic.{_⊎_}
