@@ -1,4 +1,6 @@
 // Numbers as bytes, the highest first, written and read; floats by their bits, every NaN by one pattern.
+#![tactic(auto)]
+
 ghost use Rattle.std.specs.Prelude.{◌≡◌};
 ghost use Rattle.big_endian.specs.Bytes.{bytes16, bytes32, bytes64, single, double, flag_of};
 

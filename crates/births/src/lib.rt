@@ -1,5 +1,7 @@
 // A birth, handed on; and what it makes: a new particle, from the settings, the clock and the voice at
 // its birth.
+#![tactic(auto)]
+
 ghost use Rattle.std.specs.Prelude.{◌≡◌};
 ghost use Rattle.births.specs.Births.{register_by, width_of, opening_of, strength_of, ratio_of, partials_by, power_by, newborn_of};
 

@@ -1,5 +1,7 @@
 // The random draws: SplitMix64's output function over a key, so that a draw depends on its index and
 // its stream alone, and never on the draws before it.
+#![tactic(auto)]
+
 ghost use Rattle.std.specs.Prelude.{◌≡◌};
 ghost use Rattle.draws.specs.Draws.{mix_of, random_of, key_of, stream_of};
 

@@ -1,5 +1,7 @@
 // Runs the draws on stored cases (tests/vectors/draws.rs): SplitMix64's published outputs, worked
 // examples and the original's own answers. Says how many differ.
+#![tactic(auto)]
+
 use vectors::{answer, first, operation, second};
 
 fn differs(line: &[u8; 84]) -> bool {

@@ -1,5 +1,7 @@
 // Elementary functions of floats: each is a fixed order of IEEE and integer operations, the same on
 // every machine, and total.
+#![tactic(auto)]
+
 mod log_cells;
 mod logarithm;
 mod root;

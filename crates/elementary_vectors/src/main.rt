@@ -1,5 +1,7 @@
 // Runs the elementary functions on stored cases, answered by a plain implementation of
 // docs/FUNCTIONS.md (tests/vectors/elementary.rs), and says how many differ.
+#![tactic(auto)]
+
 use vectors::{answer, first, operation};
 
 fn bits_of(op: u64, x: f32) -> u64 {

@@ -1,5 +1,7 @@
 // The engine's calls, all but `frame`: a new engine, a reset one, two counts and `advance`; the others are
 // handed on.
+#![tactic(auto)]
+
 mod counts;
 mod make;
 mod time;

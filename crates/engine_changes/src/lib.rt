@@ -1,4 +1,6 @@
 // The calls that change settings, the note input and the place in the film.
+#![tactic(auto)]
+
 ghost use Rattle.std.specs.Prelude.{◌≡◌};
 ghost use Rattle.sources.specs.Sources.{same_flag};
 ghost use Rattle.state.specs.State.{with_config};

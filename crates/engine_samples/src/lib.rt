@@ -1,4 +1,6 @@
 // What a sample delivers, and the samples at which nothing is due.
+#![tactic(auto)]
+
 mod sample;
 mod waiting;
 

@@ -1,4 +1,6 @@
 // The calls on one of the source slots.
+#![tactic(auto)]
+
 ghost use Rattle.std.specs.Prelude.{◌≡◌, ◌<◌};
 ghost use Rattle.sources.specs.Sources.{max_sources};
 ghost use Rattle.engine_sources.specs.Slots.{supplied_of, set_source_of, retire_source_of, release_source_of};

@@ -1,4 +1,6 @@
 // Births that a note asks for at once.
+#![tactic(auto)]
+
 ghost use Rattle.std.specs.Prelude.{◌≡◌};
 ghost use Rattle.engine_triggers.specs.Triggers.{reserved_of, triggered_by, triggered_of};
 ghost use Rattle.engine_triggers.specs.Firing.{permits, became_of, with_indexed};

@@ -1,4 +1,6 @@
 // What a host asks a script for: its last accepted frame, as bytes.
+#![tactic(auto)]
+
 ghost use Rattle.std.specs.Prelude.{◌≡◌};
 ghost use Rattle.text.specs.Put.{Put, place_of, buffer_of};
 ghost use Rattle.entry.specs.Entry.{window_bytes, windows_bytes, frame_bytes, entry_answer, entry_bytes};

@@ -1,5 +1,5 @@
 -- From a wider format's pattern to the rounded value.
-use Rattle.std.proofs.Common.{◌≡◌, ℕ, zero, suc, ◌+◌, ◌-◌, ◌*◌, ◌/◌, ◌%◌, ◌^◌, ◌<◌, ◌≤◌, min, Bool, true, false, cond, not, T, eqb, ltb, sym, refl, ap, ◌∙◌, subst, le_trans, le_of_eq, lt_of_lt_of_le, mul-le-mul_right, mod-eq_of_lt, mul_assoc, div-lt_iff_lt-mul, mul-le-mul_left, mul-lt-mul_of_pos_right, mul-pos, le-div_iff_mul-le, mul-one, div-le_self, div-mul-le_self, div_one, arith, lit<, eqb→eq, ltb→lt, leb→le, pow_pos, pow_mono, pow-add, shl_exact, ltb-false, ltb-true, le-ltb, lt-ltb, ne_eqb, le-leb}
+use Rattle.std.proofs.Common.{◌≡◌, ℕ, zero, suc, ◌+◌, ◌-◌, ◌*◌, ◌/◌, ◌%◌, ◌^◌, ◌<◌, ◌≤◌, min, Bool, true, false, cond, not, T, eqb, ltb, sym, refl, ap, ◌∙◌, subst, le_trans, le_of_eq, lt_of_lt_of_le, mul-le-mul_right, mod-eq_of_lt, mul_assoc, div-lt_iff_lt-mul, mul-le-mul_left, mul-lt-mul_of_pos_right, mul-pos, le-div_iff_mul-le, mul-one, div-le_self, div-mul-le_self, div-one, arith, lit<, eqb→eq, ltb→lt, leb→le, pow_pos, pow_mono, pow-add, shl_exact, ltb-false, ltb-true, le-ltb, lt-ltb, ne_eqb, le-leb}
 use Prim.Native.Nat.{compare, Ordering}
 use native.Mathlib.Nat.{div-eq_of_lt, mod-le, mod-eq-sub-mod, mod-mod_of_dvd, dvd-mul_right}
 use mathlib.Core.Bool.{false≢true}
@@ -241,10 +241,10 @@ rounded-whole n j h a b =
     (ap (λ (z : ℕ). closest (z * 2 ^ 149) (1 * 2 ^ (j + 126))) (sym (mul-one n)) ∙ scaled_closest n 0 149 0 (j + 126) (j - 23) (omega arith))
   where
     low_end : 2 ^ (j + 149) ≤ n * 2 ^ 149 / 1
-    low_end = subst (λ (z : ℕ). 2 ^ (j + 149) ≤ z) (sym (div_one (n * 2 ^ 149))) (le_trans (le_of_eq (pow-add 2 j 149)) (mul-le-mul_right (2 ^ 149) a))
+    low_end = subst (λ (z : ℕ). 2 ^ (j + 149) ≤ z) (sym (div-one (n * 2 ^ 149))) (le_trans (le_of_eq (pow-add 2 j 149)) (mul-le-mul_right (2 ^ 149) a))
 
     high_end : n * 2 ^ 149 / 1 < 2 ^ suc (j + 149)
-    high_end = subst (λ (z : ℕ). z < 2 ^ suc (j + 149)) (sym (div_one (n * 2 ^ 149))) (lt_of_lt_of_le (mul-lt-mul_of_pos_right b (pow_pos 149)) (le_of_eq (sym (pow-add 2 (suc j) 149) ∙ ap (λ (z : ℕ). 2 ^ z) (omega arith))))
+    high_end = subst (λ (z : ℕ). z < 2 ^ suc (j + 149)) (sym (div-one (n * 2 ^ 149))) (lt_of_lt_of_le (mul-lt-mul_of_pos_right b (pow_pos 149)) (le_of_eq (sym (pow-add 2 (suc j) 149) ∙ ap (λ (z : ℕ). 2 ^ z) (omega arith))))
 
 -- ---- a pattern, NaN or not
 pub under_nan : (f : Format) (n : ℕ) → n % top f ≤ ones f * hid f → T (not (nan_bits f n))

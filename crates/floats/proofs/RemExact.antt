@@ -3,7 +3,7 @@ use Rattle.std.proofs.Common.{◌≡◌, ℕ, zero, suc, ◌-◌, ◌*◌, ◌%�
 use native.Mathlib.Nat.{mod-le}
 use lib.Dec.{eqb-suc-zero}
 use lib.Ieee.{Float, nan, inf, fin, Format, binary32, binary64, prec, low, up, down, round, rem, fits}
-use lib.Ieee.Fits.{down_pos, rem_fits, fits_widens}
+use lib.Ieee.Fits.{down_pos, rem-fits, fits_widens}
 use lib.Ieee.Exact.{HasValue, round_exact}
 use lib.Ieee.Digits.{back}
 use Rattle.floats.proofs.Values.{fine, steps, own-count, unique}
@@ -58,5 +58,5 @@ rem_widens (fin s m e) (fin t (suc n) d) p q =
     let x = fin s m e in
     let y = fin t (suc n) d in
     unique binary64 (rem binary64 x y) (rem binary32 x y) s (rest m e (suc n) d) (down e * down d) (mul-pos (down_pos e) (down_pos d))
-    (rem_fits binary64 x y (fits_widens x p)) (fits_widens (rem binary32 x y) (rem_fits binary32 x y p))
+    (rem-fits binary64 x y (fits_widens x p)) (fits_widens (rem binary32 x y) (rem-fits binary32 x y p))
     (rem_exact binary64 s m e t n d (fits_widens x p) (fits_widens y q)) (rem_exact binary32 s m e t n d p q)

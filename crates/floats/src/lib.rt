@@ -1,5 +1,7 @@
 // The float and word operations of the Rust that Rattle has no operator for. Each is total, with
 // the meaning that a release build of Rust gives it; 01 settles what Rust leaves open.
+#![tactic(auto)]
+
 mod cast;
 mod choices;
 mod modulo;

@@ -1,5 +1,7 @@
 // Runs the float helpers on the stored cases of `stdin`, whose answers Rust gave
 // (tests/vectors/floats.rs), and says how many differ.
+#![tactic(auto)]
+
 use vectors::{answer, first, operation, second, third};
 
 fn f32_of(w: u64) -> f32 {

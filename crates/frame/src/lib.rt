@@ -1,4 +1,6 @@
 // A frame: frees the places that are due, and shows every particle that holds one.
+#![tactic(auto)]
+
 ghost use Rattle.std.specs.Prelude.{◌≡◌};
 ghost use Rattle.state.specs.State.{with_particles};
 ghost use Rattle.frame.specs.Frame.{activity_of, accepted};

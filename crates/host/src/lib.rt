@@ -1,5 +1,7 @@
 // What a host may call: the elementary functions on numbers, a script on lent bytes, its mask file, and
 // the writer of events.
+#![tactic(auto)]
+
 ghost use Rattle.powers.specs.Exp64 as Exp64;
 ghost use Rattle.elementary.specs.Log2.{log2_of};
 ghost use Rattle.powers.specs.Power as Power;

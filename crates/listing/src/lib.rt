@@ -1,5 +1,7 @@
 // Runs a script: its fields go to an engine one after the other, a turn each, and what they print goes
 // into a lent buffer; and what a script ends with.
+#![tactic(auto)]
+
 ghost use Rattle.std.specs.Prelude.{◌≡◌, ◌+◌, ◌-◌, ◌<◌, ◌≤◌, length};
 ghost use Rattle.text.specs.Put.{Put};
 ghost use Rattle.listing.specs.Printed.{text_from, printed};

@@ -1,4 +1,6 @@
 // The mask file of a whole script: a record for each accepted frame, one behind the other.
+#![tactic(auto)]
+
 use listing::Line;
 use refusals::{Answer, Refusal};
 use script_steps::Run;

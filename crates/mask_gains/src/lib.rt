@@ -1,4 +1,6 @@
 // The mask: what a frame leaves of each bin.
+#![tactic(auto)]
+
 mod bins;
 mod gain;
 mod logs;

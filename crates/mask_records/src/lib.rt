@@ -1,4 +1,6 @@
 // Masks as files for the mixing stage: one record a frame, written to and read from lent bytes.
+#![tactic(auto)]
+
 use refusals::Refusal;
 
 mod decibels;

@@ -2,6 +2,8 @@
 // of tenths of a decibel, and then the script: so nothing but reading and writing is asked of C. Each
 // record goes to standard output as it is made, so that the file never stands in memory; how it ended
 // goes to standard error.
+#![tactic(auto)]
+
 ghost use Rattle.std.specs.Prelude.{◌≡◌, ◌≤◌};
 ghost use Rattle.floats.specs.Names.{f32, div32, as_float};
 ghost use Rattle.masks.specs.Digits.{digits_held, digits_number};

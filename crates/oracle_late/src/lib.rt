@@ -1,5 +1,7 @@
 // The listing of a script whose engine has counted samples already when its first field makes it, for
 // the comparison with the Rust near the limit of samples.
+#![tactic(auto)]
+
 ghost use Rattle.std.specs.Prelude.{◌≡◌, ◌+◌, ◌-◌, ◌<◌, ◌≤◌, length};
 ghost use Rattle.text.specs.Put.{Put};
 ghost use Rattle.oracle_late.specs.Late.{counted_of, run_after, text_late, printed_late, listed_late, left_late};

@@ -1,4 +1,6 @@
 // Single layers handed over on numbers, for the comparison with the Rust and the measurements alone.
+#![tactic(auto)]
+
 ghost use Rattle.draws.specs.Draws.{key_of, mix_of, random_of, stream_of};
 ghost use Rattle.floats.specs.Choose.{max, min, clamp, abs};
 ghost use Rattle.floats.specs.Convert.{convert};

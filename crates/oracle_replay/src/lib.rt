@@ -1,5 +1,7 @@
 // Whole scripts handed over for the comparison with the Rust alone: the listing, and what every field
 // leaves.
+#![tactic(auto)]
+
 ghost use Rattle.std.specs.Prelude.{◌≡◌, ◌+◌, ◌-◌, ◌<◌, ◌≤◌, length};
 ghost use Rattle.text.specs.Put.{Put, place_after, buffer_after};
 ghost use Rattle.listing.specs.Listed.{listed_of, left_in};

@@ -1,5 +1,7 @@
 // The fields of a script read and written again, for the comparison with the oracle's own reading and
 // writer alone.
+#![tactic(auto)]
+
 ghost use Rattle.std.specs.Prelude.{◌≡◌};
 ghost use Rattle.script.specs.Field.{read_of};
 ghost use Rattle.script.specs.Reading.{onward, reading_of};

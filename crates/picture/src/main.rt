@@ -1,6 +1,8 @@
 // Reads a mask file on standard input and prints a line of numbers for each record: its sample, its
 // bin count, and the mean entry of each row that the record has in a picture. The last line says how
 // many records there were, or which one was refused; nothing is read behind that one.
+#![tactic(auto)]
+
 ghost use Rattle.std.specs.Prelude.{◌≡◌, ◌≤◌, ◌<◌, length};
 
 use mask_records::Read;

@@ -1,5 +1,7 @@
 // Where a new particle sounds: how often and how strongly a register is chosen, the free Cloud's
 // frequency, Sprinkle's octave, the harmonics of one particle, and the highest frequency of a rate.
+#![tactic(auto)]
+
 ghost use Rattle.std.specs.Prelude.{◌≡◌};
 ghost use Rattle.pitch.specs.Highest.{max_hz_of};
 

@@ -1,4 +1,6 @@
 // Reads a script on standard input, and writes what it prints.
+#![tactic(auto)]
+
 use listing::Listed;
 
 // A read answers 0 at the end of the input alone: where one failed, as in a folder, the next fails too.

@@ -1,5 +1,7 @@
 // The places of the particles: what holds one, what retirement and a new pitch do to those that hold
 // one, and the lowest free one.
+#![tactic(auto)]
+
 ghost use Rattle.std.specs.Prelude.{◌≡◌, map};
 ghost use Rattle.pool.specs.Pool.{free_particle, first_retirement, retired_of, retire_one, retire_bound_one, retune_one};
 

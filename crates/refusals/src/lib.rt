@@ -1,4 +1,6 @@
 // What a call answers, and the numbers of the refusals: 01's ("Refusal numbers"), and behind them 02's.
+#![tactic(auto)]
+
 ghost use Rattle.std.specs.Prelude.{◌≡◌};
 ghost use Rattle.refusals.specs.Numbers.{number_of, answer_of};
 

@@ -1,4 +1,6 @@
 // Reads one field of an event script, at the start of the slice that it is handed.
+#![tactic(auto)]
+
 ghost use Rattle.std.specs.Prelude.{◌≡◌, ◌<◌, length};
 ghost use Rattle.script.specs.Field.{misplaced, unknown, read_of};
 

@@ -1,4 +1,6 @@
 // The run of a script, what a field comes to, and what the line of an accepted frame says.
+#![tactic(auto)]
+
 ghost use Rattle.std.specs.Prelude.{◌≡◌};
 ghost use Rattle.script_steps.specs.Steps as Steps;
 ghost use Rattle.script_steps.specs.Replies.{reply_of, outcome_reply};

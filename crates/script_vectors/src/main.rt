@@ -1,5 +1,7 @@
 // Replays stored scripts (tests/answers/scripts.txt says which, and the oracle answered them): the
 // listing byte for byte, or the last frame by its digest. Says how many differ.
+#![tactic(auto)]
+
 ghost use Rattle.std.specs.Prelude.{◌≤◌, length};
 
 use listing::Listed;

@@ -1,4 +1,6 @@
 // Writes events into a lent buffer, one encoding for each: any event, or each by a call of its own.
+#![tactic(auto)]
+
 ghost use Rattle.std.specs.Prelude.{◌≡◌, length};
 ghost use Rattle.text.specs.Put.{buffer_of};
 ghost use Rattle.script_writer.specs.Encoded.{encoded};

@@ -1,5 +1,7 @@
 // The settings: what may be asked for, its default, the hop and the sample rates that are refused; their
 // mending, and the envelope of a birth; shapes and directions by their numbers.
+#![tactic(auto)]
+
 ghost use Rattle.std.specs.Prelude.{◌≡◌};
 ghost use Rattle.settings.specs.Settings.{is_sprinkle, default_config, checked_of, lawful_rate};
 

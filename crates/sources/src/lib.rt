@@ -1,4 +1,6 @@
 // The 256 source slots: what a note supplies, and which sources may be chosen.
+#![tactic(auto)]
+
 ghost use Rattle.std.specs.Prelude.{◌≡◌};
 ghost use Rattle.sources.specs.Sources.{no_source, same, is_eligible, is_pitched, released_of};
 

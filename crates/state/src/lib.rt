@@ -1,4 +1,6 @@
 // The engine's state: a value that goes into a call and comes back, in groups of what changes together.
+#![tactic(auto)]
+
 ghost use Rattle.std.specs.Prelude.{◌≡◌};
 ghost use Rattle.state.specs.State.{taken, refused};
 

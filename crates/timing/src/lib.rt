@@ -1,5 +1,7 @@
 // When births are due: Sprinkle's three streams, and the Cloud's timing reference. Times are in
 // cycles of the Rate clock.
+#![tactic(auto)]
+
 ghost use Rattle.std.specs.Prelude.{◌≡◌};
 ghost use Rattle.timing.specs.Streams.{prepared_stream, new_of, larger, group_of, skipped_of, aligned_of, aligned_all, moved_of, reference_of};
 

@@ -1,5 +1,7 @@
 // A line of stored cases: the operation's number in two hexadecimal digits, its name, three
 // operands and the answer in sixteen each, and the line's end.
+#![tactic(auto)]
+
 ghost use Rattle.std.specs.Prelude.{true, ◌↔◌, ◌≡◌, ◌+◌, ◌≤◌, ◌<◌};
 ghost use Rattle.vectors.specs.Line.{digit_of, number_at};
 

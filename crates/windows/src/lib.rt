@@ -1,5 +1,7 @@
 // What a frame shows: 192 windows over the logarithm of frequency, how far each opens a place there,
 // and what a frame leaves of a frequency.
+#![tactic(auto)]
+
 ghost use Rattle.std.specs.Prelude.{◌≡◌};
 ghost use Rattle.windows.specs.Opening.{cubic, taper_of, openness_of, empty_window, empty_frame};
 
