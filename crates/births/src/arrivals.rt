@@ -13,7 +13,7 @@ use state::{Engine, Tally};
 pub const MAX_BIRTH_ATTEMPTS: u64 = 64;
 
 // What a birth stores in the engine: the slot that it chose, the tally, and the particle at its place.
-#[derive(Drop)]
+#[derive(Clone, Copy)]
 pub struct Arrival {
     pub particle: Particle,
     pub tally: Tally,

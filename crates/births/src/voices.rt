@@ -9,7 +9,7 @@ use sources::Source;
 pub const FREE_ROOT_MIN_HZ: f32 = 200.0;
 
 // What a birth sounds: the slot it has chosen (`NO_SOURCE` for none), and the pitch and strength that it found.
-#[derive(Drop)]
+#[derive(Clone, Copy)]
 pub struct Voice {
     pub slot: usize,
     pub frequency_hz: f32,

@@ -10,7 +10,7 @@ use state::Clock;
 use timing::{SPRINKLE_STREAMS, SprinkleStream};
 
 // The next starts, in cycles of the Rate clock: one for each lane, or three times the Cloud's.
-#[derive(Drop)]
+#[derive(Clone, Copy)]
 pub struct Starts {
     pub first: f64,
     pub second: f64,
@@ -18,7 +18,7 @@ pub struct Starts {
 }
 
 // What moves the clock in a sample.
-#[derive(Drop)]
+#[derive(Clone, Copy)]
 pub struct Tempo {
     pub scheduled: bool,
     pub step: f64,
@@ -27,7 +27,7 @@ pub struct Tempo {
 }
 
 // The clock after so many samples.
-#[derive(Drop)]
+#[derive(Clone, Copy)]
 pub struct Waited {
     pub clock: Clock,
     pub count: u64,

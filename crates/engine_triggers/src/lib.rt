@@ -11,7 +11,7 @@ use sources::Source;
 use state::Engine;
 
 // What a trigger comes to.
-#[derive(Drop)]
+#[derive(Clone, Copy)]
 pub enum Outcome {
     Born,
     NotEligible,
@@ -19,13 +19,13 @@ pub enum Outcome {
     Refused(Refusal),
 }
 
-#[derive(Drop)]
+#[derive(Clone, Copy)]
 pub struct Triggered {
     pub engine: Engine,
     pub outcome: Outcome,
 }
 
-#[derive(Drop)]
+#[derive(Clone, Copy)]
 pub struct Reserved {
     pub index: u64,
     pub engine: Engine,

@@ -3,7 +3,7 @@ use mathlib.Core.Path.{◌≡◌, refl, sym, ap, ◌∙◌}
 use mathlib.Core.Bool.{Bool, true, false, cond}
 use lib.Dec.{T}
 use lib.Ieee.{Float, Format, rem, add, lt, le, fits}
-use lib.Ieee.Fits.{rem_fits, add-fits, cond-fits}
+use lib.Ieee.Fits.{rem-fits, add-fits, cond-fits}
 use lib.Ieee.Scale.{finite}
 use lib.Ieee.Bits.{is_true}
 use borrow.Author.Tests.{le-ltb}
@@ -49,7 +49,7 @@ clamp-finite x a b p q r = one_of (lt b (cond (lt x a) a x)) b (cond (lt x a) a 
 -- ---- wrapped
 pub euclid_fits : (f : Format) (x m : Float) → T (fits f x) → T (fits f (rem_euclid f x m))
 unfolding rem_euclid
-euclid_fits f x m p = cond-fits f (lt (rem f x m) nought) (add f (rem f x m) (abs m)) (rem f x m) (add-fits f (rem f x m) (abs m)) (rem_fits f x m p)
+euclid_fits f x m p = cond-fits f (lt (rem f x m) nought) (add f (rem f x m) (abs m)) (rem f x m) (add-fits f (rem f x m) (abs m)) (rem-fits f x m p)
 
 -- a number from 0 up to below m is its own remainder; minus zero too
 pub euclid_again : (f : Format) (x m : Float) → T (fits f x) → T (le nought x) → T (lt x m) → rem_euclid f x m ≡ x

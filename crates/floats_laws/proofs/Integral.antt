@@ -1,6 +1,6 @@
 -- `floor` and `ceil` are IEEE 754's rounding to a whole number, over the format: the only floats next to x as `Floored` and `Ceiled` say, and they never fall as x rises.
 use Prim.Native.Nat.{ℕ, suc, ◌+◌, ◌-◌, ◌*◌, ◌/◌, ◌^◌, ◌≤◌, ◌<◌}
-use native.Mathlib.Nat.{le_trans, le_of_eq, lt_of_le_of_lt, le_of_suc-le-suc, le_antisymm, mul-one, zero-mul, mul_right_comm, mul-le-mul_right, le_of_mul-le-mul_right, lt_of_mul-lt-mul_right, div-add-mod', mod-lt, div-le_self, div_one, zero-div}
+use native.Mathlib.Nat.{le_trans, le_of_eq, lt_of_le_of_lt, le_of_suc-le-suc, le_antisymm, mul-one, zero-mul, mul_right_comm, mul-le-mul_right, le_of_mul-le-mul_right, lt_of_mul-lt-mul_right, div-add-mod', mod-lt, div-le_self, div-one, zero-div}
 use native.Mathlib.Omega.{arith}
 use mathlib.Core.Path.{◌≡◌, refl, sym, ap, ◌∙◌, subst}
 use mathlib.Core.Bool.{Bool, true, false, not}
@@ -47,11 +47,11 @@ even-exact : (f : Format) (s : Bool) (m : ℕ) (e : ℤ) (q : ℕ) → T (fits f
 even-exact f s m e q t h = subst (λ (y : Float). HasValue y s q 1) (sym (kept f s m e q t h)) (refl, mul-one (m * up e) ∙ h)
 
 cut-exact : (f : Format) (s : Bool) (m : ℕ) (e : ℤ) → T (fits f (fin s m e)) → HasValue (round f s (cut m e) 1) s (cut m e) 1
-cut-exact f s m (pos k) t = even-exact f s m (pos k) (cut m (pos k)) t (sym (mul-one (cut m (pos k)) ∙ div_one (m * 2 ^ k)))
+cut-exact f s m (pos k) t = even-exact f s m (pos k) (cut m (pos k)) t (sym (mul-one (cut m (pos k)) ∙ div-one (m * 2 ^ k)))
 cut-exact f s m (negsuc k) t = round_whole f s (cut m (negsuc k)) (omega (arith, (fine f s m (negsuc k) t).few, div-le_self (m * 1) (2 ^ suc k)))
 
 lift-exact : (f : Format) (s : Bool) (m : ℕ) (e : ℤ) → T (fits f (fin s m e)) → HasValue (round f s (lift m e) 1) s (lift m e) 1
-lift-exact f s m (pos k) t = even-exact f s m (pos k) (lift m (pos k)) t (sym (mul-one (lift m (pos k)) ∙ div_one (m * 2 ^ k + 0) ∙ plain (m * 2 ^ k)))
+lift-exact f s m (pos k) t = even-exact f s m (pos k) (lift m (pos k)) t (sym (mul-one (lift m (pos k)) ∙ div-one (m * 2 ^ k + 0) ∙ plain (m * 2 ^ k)))
   where
     plain : (n : ℕ) → n + 0 ≡ n
     plain n = omega arith

@@ -2,7 +2,7 @@
 use mathlib.Core.Path.{◌≡◌, refl, sym, subst, subst⁻¹}
 use mathlib.Core.Bool.{true, false}
 use Prim.Native.Nat.{ℕ, zero, suc, ◌+◌, ◌-◌, ◌*◌, ◌/◌, ◌%◌, ◌^◌, ◌≤◌, ◌<◌}
-use native.Mathlib.Nat.{le_trans, le_of_eq, lt_of_lt_of_le, mul-le-mul_right, mul-pos, div_one, one-mul, zero-mul, zero-lt-suc, add-mul, div-add-mod', le-div_iff_mul-le}
+use native.Mathlib.Nat.{le_trans, le_of_eq, lt_of_lt_of_le, mul-le-mul_right, mul-pos, div-one, one-mul, zero-mul, zero-lt-suc, add-mul, div-add-mod', le-div_iff_mul-le}
 use native.Mathlib.Omega.{arith}
 use lib.Dec.{T, ltb→lt}
 use lib.Pow.{pow_pos}
@@ -32,7 +32,7 @@ fewer z a p o h e = omega arith
 
 -- some digit is kept
 some : (n k h : ℕ) → 0 < n → 0 < h → 0 < k * h + n / 2 ^ k
-some n zero h p q = subst⁻¹ (λ (z : ℕ). 0 < 0 * h + z) (div_one n) (past (0 * h) n p)
+some n zero h p q = subst⁻¹ (λ (z : ℕ). 0 < 0 * h + z) (div-one n) (past (0 * h) n p)
   where
     past : (a n : ℕ) → 0 < n → 0 < a + n
     past a n p = omega arith

@@ -18,7 +18,7 @@ pub const TRANSITION_SECONDS: f32 = 0.05;
 
 // The two-byte answer stands last: before the others it would put them at odd addresses, where copies
 // are slow.
-#[derive(Drop)]
+#[derive(Clone, Copy)]
 pub struct Framed {
     pub engine: Engine,
     pub frame: Frame,

@@ -8,7 +8,7 @@ use pool::{Particle, Retired};
 pub const RETIRE_SECONDS: f64 = 0.02;
 
 // What a particle shows: its root on the scale of octaves, and how strong and wide its windows are.
-#[derive(Drop)]
+#[derive(Clone, Copy)]
 pub struct Shown {
     pub root_log: f32,
     pub amplitude: f32,

@@ -10,7 +10,7 @@ use script_steps::Run;
 use windows::Frame;
 
 // The refusal that the script went bad with, if any, and its last accepted frame.
-#[derive(Drop)]
+#[derive(Clone, Copy)]
 pub struct Ended {
     pub answer: Answer,
     pub frame: Frame,

@@ -19,7 +19,7 @@ pub use ending::{Ended, bad_of, run_script};
 pub use lines::{Line, put_line};
 pub use turns::{Reached, next_frame, one_turn};
 
-#[derive(Drop)]
+#[derive(Clone, Copy)]
 pub enum Listed {
     Count(usize),
     Refused(Refusal),

@@ -9,7 +9,7 @@ use text::{put, put_dec, put_hex32, put_hex64};
 
 // The number of the field, and what its line says; a bad one has the byte place where the script is
 // broken, and the last line has the count of fields.
-#[derive(Drop)]
+#[derive(Clone, Copy)]
 pub enum Line {
     Nothing,
     Frame(u64, Values),

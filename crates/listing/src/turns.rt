@@ -13,7 +13,7 @@ use script_steps::{Reply, Run};
 use sources::Source;
 
 // One turn: the run after it, its line, and how many bytes of script it took, 0 to stop.
-#[derive(Drop)]
+#[derive(Clone, Copy)]
 pub struct Turn {
     pub run: Run,
     pub line: Line,
@@ -22,7 +22,7 @@ pub struct Turn {
 
 // How far turns go: through one field, up to the next line that is printed, up to the next accepted
 // frame, or to the end of the run.
-#[derive(Drop)]
+#[derive(Clone, Copy)]
 pub enum Until {
     Field,
     Line,
@@ -31,7 +31,7 @@ pub enum Until {
 }
 
 // A turn, and where its field stands: its number, and its place.
-#[derive(Drop)]
+#[derive(Clone, Copy)]
 pub struct Reached {
     pub turn: Turn,
     pub n: u64,
@@ -39,7 +39,7 @@ pub struct Reached {
 }
 
 // What a turn says beside the run.
-#[derive(Drop)]
+#[derive(Clone, Copy)]
 struct Said {
     line: Line,
     taken: usize,

@@ -15,7 +15,7 @@ pub use rate::prepare;
 
 // Where a walk over a script stands: before field n, which stands at `at`, with what the fields
 // before it left.
-#[derive(Drop)]
+#[derive(Clone, Copy)]
 pub struct Walk {
     pub run: Run,
     pub n: u64,
@@ -24,7 +24,7 @@ pub struct Walk {
 
 // What a step comes to: the place after a frame's record; the number of a frame's field, and why it
 // has no record; or the script's last line.
-#[derive(Drop)]
+#[derive(Clone, Copy)]
 pub enum Made {
     Record(usize),
     Refused(u64, Refusal),
@@ -32,21 +32,21 @@ pub enum Made {
 }
 
 // The walk behind the field that a step reached.
-#[derive(Drop)]
+#[derive(Clone, Copy)]
 pub struct Step {
     pub walk: Walk,
     pub made: Made,
 }
 
 // How many bytes a script's records take, and how they end.
-#[derive(Drop)]
+#[derive(Clone, Copy)]
 struct Measured {
     bytes: usize,
     answer: Answer,
 }
 
 // The place after the records, or why there are none.
-#[derive(Drop)]
+#[derive(Clone, Copy)]
 pub enum Filed {
     Upto(usize),
     Refused(Refusal),

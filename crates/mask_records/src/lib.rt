@@ -15,14 +15,14 @@ pub use reading::read_record;
 pub use write::write_record;
 
 // The place after what was written, or why nothing was.
-#[derive(Drop)]
+#[derive(Clone, Copy)]
 pub enum Written {
     Upto(usize),
     Refused(Refusal),
 }
 
 // Sample, count and how many bytes the record takes.
-#[derive(Drop)]
+#[derive(Clone, Copy)]
 pub enum Read {
     End,
     Found(u64, usize, usize),

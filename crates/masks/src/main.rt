@@ -13,7 +13,7 @@ use mask_files::Made;
 use refusals::Refusal;
 
 // Plain digits, or something else.
-#[derive(Drop)]
+#[derive(Clone, Copy)]
 enum Number {
     Is(u64),
     Nothing,

@@ -11,7 +11,7 @@ ghost use Rattle.oracle_rewrite.specs.Rewritten.{field_in, taken_by};
 
 use script::Read;
 
-#[derive(Drop)]
+#[derive(Clone, Copy)]
 struct Rewritten {
     // How many bytes the field takes in the script; 0 where the reader stops.
     taken: usize,

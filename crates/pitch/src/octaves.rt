@@ -13,7 +13,7 @@ pub const SPRINKLE_MAX_HZ: f32 = 4186.01;
 const LOG_OF_MAX_HZ: f32 = 12.03136;
 
 // Where a note of this root sounds: so many octaves from it, and how strongly.
-#[derive(Drop)]
+#[derive(Clone, Copy)]
 pub struct Register {
     pub octave: f32,
     pub strength: f32,

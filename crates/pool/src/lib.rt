@@ -17,13 +17,13 @@ pub const MAX_PARTICLES: usize = 64;
 pub const NO_PLACE: usize = 64;
 
 // When a particle was first retired.
-#[derive(Drop)]
+#[derive(Clone, Copy)]
 pub enum Retired {
     Not,
     At(u64),
 }
 
-#[derive(Drop)]
+#[derive(Clone, Copy)]
 pub struct Particle {
     pub active: bool,
     // The slot that it follows.

@@ -2,7 +2,7 @@
 ghost use Rattle.std.specs.Prelude.{◌≡◌, ◌<◌};
 ghost use Rattle.powers.specs.PowerCells.{power_start, power_slope, power_bend};
 
-#[derive(Drop)]
+#[derive(Clone, Copy)]
 pub struct Cell {
     pub start: u64,
     pub slope: u64,

@@ -1,7 +1,7 @@
 // The fields of an event script: what each kind of them holds.
 use settings::Config;
 
-#[derive(Drop)]
+#[derive(Clone, Copy)]
 pub enum Field {
     Rate(f32),
     Configure(Config),

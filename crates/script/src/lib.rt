@@ -16,7 +16,7 @@ pub use fields::Field;
 // Added by 01: a longer script is refused.
 pub const MAX_SCRIPT_BYTES: usize = 60000;
 
-#[derive(Drop)]
+#[derive(Clone, Copy)]
 pub enum Read {
     // The field, and how many bytes it takes.
     Field(Field, usize),

@@ -8,7 +8,7 @@ use crate::values::{config_of, is_lawful_config};
 use big_endian::{be16_at, be32_at, be64_at, f32_at, f64_at, flag_at, up_to};
 
 // What a tag stands for.
-#[derive(Drop)]
+#[derive(Clone, Copy)]
 pub enum Kind {
     Unknown,
     Rate,
@@ -57,7 +57,7 @@ pub fn kind_of(tag: u8) -> Kind
 }
 
 // A row, filled with the bytes of a value.
-#[derive(Drop)]
+#[derive(Clone, Copy)]
 pub struct FilledRow {
     pub length: usize,
     pub lawful: bool,

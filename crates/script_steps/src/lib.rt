@@ -15,14 +15,14 @@ mod values;
 pub use values::{Values, values_of};
 
 // The engine, and the last frame that it accepted, empty before the first.
-#[derive(Drop)]
+#[derive(Clone, Copy)]
 pub struct Run {
     pub engine: Engine,
     pub frame: Frame,
 }
 
 // What a field comes to: nothing to print, a refusal, an accepted frame.
-#[derive(Drop)]
+#[derive(Clone, Copy)]
 pub enum Reply {
     Quiet,
     Refused(Refusal),
@@ -30,7 +30,7 @@ pub enum Reply {
 }
 
 // Both, as the definition of a field's step gives them.
-#[derive(Drop)]
+#[derive(Clone, Copy)]
 pub struct Stepped {
     pub run: Run,
     pub reply: Reply,

@@ -4,7 +4,7 @@ ghost use Rattle.script_steps.specs.Values.{milliseconds_of, values_of};
 
 use state::Engine;
 
-#[derive(Drop)]
+#[derive(Clone, Copy)]
 pub struct Values {
     pub sample: u64,
     pub ms: u64,

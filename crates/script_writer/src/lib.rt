@@ -19,7 +19,7 @@ pub use events::{
     write_trigger,
 };
 
-#[derive(Drop)]
+#[derive(Clone, Copy)]
 pub struct Written {
     // How many bytes the buffer holds now.
     pub count: usize,

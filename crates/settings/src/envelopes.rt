@@ -19,7 +19,7 @@ pub const REVERSE_ATTACK: f32 = 0.85;
 pub const CLOUD_LIFETIME_SCALE: f32 = 2.0;
 
 // What a new particle captures: its duration in seconds, and the fraction of it before the peak.
-#[derive(Drop)]
+#[derive(Clone, Copy)]
 pub struct Contour {
     pub lifetime: f32,
     pub attack: f32,

@@ -18,20 +18,20 @@ pub use mending::{MAX_PARTIALS, mended};
 // Added by 01: a larger hop is refused.
 pub const MAX_HOP_SAMPLES: usize = 16384;
 
-#[derive(Drop)]
+#[derive(Clone, Copy)]
 pub enum Shape {
     Sprinkle,
     Cloud,
 }
 
-#[derive(Drop)]
+#[derive(Clone, Copy)]
 pub enum Direction {
     Forward,
     Reverse,
     Alternate,
 }
 
-#[derive(Drop)]
+#[derive(Clone, Copy)]
 pub struct Config {
     pub enabled: bool,
     pub shape: Shape,

@@ -14,7 +14,7 @@ pub const MAX_SOURCES: usize = 256;
 // Stands for no source, where a slot's number could stand.
 pub const NO_SOURCE: usize = 256;
 
-#[derive(Drop)]
+#[derive(Clone, Copy)]
 pub struct Source {
     pub frequency_hz: f32,
     // Resolved velocity sensitivity, bounded to unity at a birth.

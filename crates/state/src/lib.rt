@@ -17,7 +17,7 @@ pub use make::{from_prepared, prepare, weights};
 pub use tallies::{bear_one, drop_one};
 
 // What follows from the sample rate, kept across resets.
-#[derive(Drop)]
+#[derive(Clone, Copy)]
 pub struct Prepared {
     pub sample_rate: f64,
     pub phase_alpha: f64,
@@ -25,7 +25,7 @@ pub struct Prepared {
     pub default_partial_weights: [f32; MAX_PARTIALS],
 }
 
-#[derive(Drop)]
+#[derive(Clone, Copy)]
 pub struct Clock {
     pub sample: u64,
     pub phase: f64,
@@ -34,7 +34,7 @@ pub struct Clock {
 
 // What the next births take: the Cloud's opportunity, a trigger's index, the slot that the last birth
 // chose (`NO_SOURCE` for none), and whether note input is present.
-#[derive(Drop)]
+#[derive(Clone, Copy)]
 pub struct Next {
     pub opportunity: u64,
     pub immediate_index: u64,
@@ -43,7 +43,7 @@ pub struct Next {
 }
 
 // Decisions only, and how many places are held: no sound follows from the last four.
-#[derive(Drop)]
+#[derive(Clone, Copy)]
 pub struct Tally {
     pub attempts: u64,
     pub births: u64,
@@ -52,7 +52,7 @@ pub struct Tally {
     pub held: usize,
 }
 
-#[derive(Drop)]
+#[derive(Clone, Copy)]
 pub struct Engine {
     pub particles: [Particle; MAX_PARTICLES],
     pub sources: [Source; MAX_SOURCES],
@@ -68,7 +68,7 @@ pub struct Engine {
 
 // What a call answers, beside the engine after it, which stands first: behind a small enum its copies
 // would begin at an odd place.
-#[derive(Drop)]
+#[derive(Clone, Copy)]
 pub struct Done {
     pub engine: Engine,
     pub answer: Answer,

@@ -15,7 +15,7 @@ pub const SPRINKLE_STREAMS: usize = 3;
 
 pub const CLOUD_TIMING_SPREAD: f64 = 0.7;
 
-#[derive(Drop)]
+#[derive(Clone, Copy)]
 pub struct SprinkleStream {
     pub index: u64,
     pub next: f64,

@@ -10,14 +10,14 @@ mod attenuation;
 pub use attenuation::attenuation_db;
 
 // One harmonic of one particle.
-#[derive(Drop)]
+#[derive(Clone, Copy)]
 pub struct Window {
     pub center_log2_hz: f32,
     pub radius_octaves: f32,
     pub amplitude: f32,
 }
 
-#[derive(Drop)]
+#[derive(Clone, Copy)]
 pub struct Frame {
     pub windows: [Window; 192],
     pub activity: f32,

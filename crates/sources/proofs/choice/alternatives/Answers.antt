@@ -1,0 +1,17 @@
+-- `alternatives` meets its contract: the loop counts.
+use Prim.Native.Nat.{◌-◌}
+use mathlib.Core.Path.{sym, ◌∙◌}
+use mathlib.Core.Logic.{⊎_elim}
+use Rattle.sequences.specs.Pick.{picked, passed}
+use Rattle.sequences.specs.Walk.{walked_none, walked_more, walked_all}
+use borrow.Author.Rules.{rules}
+use Rattle.sources.proofs.choice.alternatives.Goals as goal
+
+pub loop-i-init : goal.loop-i-init
+loop-i-init c = (walked_none _ 256 _ 0 (search rules), search rules)
+
+pub loop-i-preserved : goal.loop-i-preserved
+loop-i-preserved c = let h = c.if-alternative in ?
+
+pub returns : goal.returns
+returns c = walked_all c.loop-i.invariant.0 (search rules)

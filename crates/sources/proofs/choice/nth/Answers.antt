@@ -1,0 +1,32 @@
+-- `nth` meets its contract: the loop walks to it.
+use native.Mathlib.Omega.{arith}
+use Prim.Native.Nat.{◌-◌}
+use mathlib.Core.Path.{sym, ◌∙◌}
+use mathlib.Core.Logic.{⊎_elim}
+use Rattle.sequences.specs.Pick.{picked, passed}
+use Rattle.sequences.specs.Rest.{rest-none, rest-next, rest_here, rest_all}
+use borrow.Author.Tests.{eq-eqb, ne_eqb}
+use Rattle.sources.specs.Choosing.{nth_from}
+use borrow.Author.Rules.{rules}
+use Rattle.sources.proofs.choice.nth.Goals as goal
+
+pub loop-i-init : goal.loop-i-init
+loop-i-init c = rest-none _ 256 _ _ (search rules)
+
+pub returns-then-left-eq0 : goal.returns-then-left-eq0
+unfolding nth_from
+returns-then-left-eq0 c = picked _ _ _ (eq-eqb _ _ c.if-left-eq0.true) ∙ picked _ _ _ (sym c.alternative.ensures ∙ c.if-alternative.true) ∙ sym (rest_here c.loop-i.invariant _ (search rules))
+
+pub loop-i-preserved : goal.loop-i-preserved
+unfolding nth_from
+loop-i-preserved c =
+    let m = c.loop-i.invariant in
+    let e = c.alternative.ensures in
+    ⊎_elim
+    (λ w. rest-next m _ _ _ (search rules) w.2 (sym (passed _ _ _ (ne_eqb _ _ w.1.left) ∙ picked _ _ _ (sym e ∙ w.0.taken))))
+    (λ w. rest-next m _ _ _ (search rules) w.1 (sym (passed _ _ _ (sym e ∙ w.0.left))))
+    c.if-alternative.branch
+
+pub returns : goal.returns
+unfolding nth_from
+returns c = (omega arith) ∙ sym (rest_all c.loop-i.invariant (search rules))
