@@ -1,5 +1,5 @@
 -- What `placed` is in each case, as the code takes them: a field of its own, none, and past the last.
-use Rattle.std.proofs.Common.{◌≡◌, ℕ, ◌+◌, ◌-◌, ◌*◌, ◌/◌, ◌^◌, ◌≤◌, min, div_one, arith}
+use Rattle.std.proofs.Common.{◌≡◌, ℕ, ◌+◌, ◌-◌, ◌*◌, ◌/◌, ◌^◌, ◌≤◌, min, div-one, arith}
 use Rattle.powers.specs.Placed.{placed}
 
 -- m over 2 * half, to the nearest
@@ -12,7 +12,7 @@ module _ (hid half infinity k : ℕ) where
   placed-above j m h =
       let a : k + j - k ≡ j = omega arith in
       let b : k - (k + j) ≡ 0 = omega arith in
-      rw (a, b, div_one m) (at_most (j * hid + near half m) h)
+      rw (a, b, div-one m) (at_most (j * hid + near half m) h)
     where
       at_most : (x : ℕ) → x ≤ infinity → min x infinity ≡ x
       at_most x h = omega arith
@@ -31,7 +31,7 @@ module _ (hid half infinity k : ℕ) where
   placed-over j m h =
       let a : k + j - k ≡ j = omega arith in
       let b : k - (k + j) ≡ 0 = omega arith in
-      rw (a, b, div_one m) (past (j * hid + near half m) h)
+      rw (a, b, div-one m) (past (j * hid + near half m) h)
     where
       past : (x : ℕ) → infinity ≤ x → min x infinity ≡ infinity
       past x h = omega arith

@@ -1,5 +1,5 @@
 -- `placed` never falls, over its constants: not as the digits rise under one exponent, nor from one exponent to a higher one. So one law serves both widths.
-use Rattle.std.proofs.Common.{◌≡◌, ℕ, ◌+◌, ◌-◌, ◌*◌, ◌/◌, ◌^◌, ◌<◌, ◌≤◌, min, sym, ap, ◌∙◌, inl, inr, le_trans, le_of_eq, add-zero, mul-le-mul_right, mul_assoc, add-mul, mul-le-mul_left, one-mul, div-le_self, div_one, arith}
+use Rattle.std.proofs.Common.{◌≡◌, ℕ, ◌+◌, ◌-◌, ◌*◌, ◌/◌, ◌^◌, ◌<◌, ◌≤◌, min, sym, ap, ◌∙◌, inl, inr, le_trans, le_of_eq, add-zero, mul-le-mul_right, mul_assoc, add-mul, mul-le-mul_left, one-mul, div-le_self, div-one, arith}
 use mathlib.Core.Path.{subst⁻¹}
 use native.Mathlib.Nat.{mul-add-div_right, div-eq_of_lt}
 use lib.Pow.{shr_mono}
@@ -26,7 +26,7 @@ module _ (hid half infinity k : ℕ) (H : 0 < half) where
     near-top = le_trans (near-rises (le_trans (div-le_self m (2 ^ (k - n))) M)) (le_of_eq (ap (near half) (sym (mul_assoc 2 hid (2 * half))) ∙ near-whole (2 * hid)))
 
     near_bottom : k - n' ≡ 0 → hid ≤ near half (m' / 2 ^ (k - n'))
-    near_bottom e = le_trans (le_of_eq (sym (near-whole hid))) (near-rises (subst⁻¹ (λ (z : ℕ). hid * (2 * half) ≤ m' / 2 ^ z) e (subst⁻¹ (λ (z : ℕ). hid * (2 * half) ≤ z) (div_one m') M')))
+    near_bottom e = le_trans (le_of_eq (sym (near-whole hid))) (near-rises (subst⁻¹ (λ (z : ℕ). hid * (2 * half) ≤ m' / 2 ^ z) e (subst⁻¹ (λ (z : ℕ). hid * (2 * half) ≤ z) (div-one m') M')))
 
     below_field : n < n' → n' ≤ k → (n - k) * hid + near half (m / 2 ^ (k - n)) ≤ (n' - k) * hid + near half (m' / 2 ^ (k - n'))
     below_field l h =

@@ -6,4 +6,4 @@ pub returns : goal.returns
 returns c =
     let a = c.args in
     let d = c.decimal-k in
-    rw (decimal-text a.n d.result c.ranges.n.fits d.ensures.1.0 d.ensures.1.1) at c.put.ensures
+    rw (decimal-text a.n d.result c.ranges.n.fits d.ensures.len d.ensures.digits) at c.put.ensures

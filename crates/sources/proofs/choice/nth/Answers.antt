@@ -9,6 +9,7 @@ use borrow.Author.Tests.{eq-eqb, ne_eqb}
 use Rattle.sources.specs.Choosing.{nth_from}
 use borrow.Author.Rules.{rules}
 use Rattle.sources.proofs.choice.nth.Goals as goal
+use Rattle.sources.proofs.choice.nth.Goals.{then-alternative+else-left-eq0, else-alternative}
 
 pub loop-i-init : goal.loop-i-init
 loop-i-init c = rest-none _ 256 _ _ (search rules)
@@ -22,10 +23,10 @@ unfolding nth_from
 loop-i-preserved c =
     let m = c.loop-i.invariant in
     let e = c.alternative.ensures in
-    ⊎_elim
-    (λ w. rest-next m _ _ _ (search rules) w.2 (sym (passed _ _ _ (ne_eqb _ _ w.1.left) ∙ picked _ _ _ (sym e ∙ w.0.taken))))
-    (λ w. rest-next m _ _ _ (search rules) w.1 (sym (passed _ _ _ (sym e ∙ w.0.left))))
-    c.if-alternative.branch
+    elim c.if-alternative.branch [
+      then-alternative+else-left-eq0 w ↦ rest-next m _ _ _ (search rules) w.left-is (sym (passed _ _ _ (ne_eqb _ _ w.if-left-eq0.false) ∙ picked _ _ _ (sym e ∙ w.if-alternative.true)))
+    | else-alternative w ↦ rest-next m _ _ _ (search rules) w.left-is (sym (passed _ _ _ (sym e ∙ w.if-alternative.false)))
+    ]
 
 pub returns : goal.returns
 unfolding nth_from

@@ -1,10 +1,9 @@
 -- `scaled` meets its contract: the product's lower half is taken off first, then s places more; from 64 on nothing is left.
-use Rattle.std.proofs.Common.{◌≡◌, ℕ, ◌+◌, ◌-◌, ◌*◌, ◌/◌, ◌%◌, ◌^◌, ◌<◌, ◌≤◌, sym, refl, ap, ◌∙◌, lt_of_lt_of_le, div-le_self, arith, pow_mono, pow-add, rules}
+use Rattle.std.proofs.Common.{◌≡◌, ℕ, ◌+◌, ◌-◌, ◌*◌, ◌/◌, ◌%◌, ◌^◌, ◌<◌, ◌≤◌, sym, refl, ap, ◌∙◌, lt_of_lt_of_le, div-le_self, arith, pow_mono, pow-add}
 use native.Mathlib.Nat.{div-div-eq-div-mul, div-eq_of_lt}
 use Rattle.floats.proofs.Words.{product-fits}
 use Rattle.powers.specs.Exp64.{scaled, high}
-use Rattle.powers.proofs.power64.scaled.Statement.{statement}
-use Rattle.powers.proofs.power64.scaled.Tie as tie
+use Rattle.powers.proofs.power64.scaled.Goals as goal
 
 by-steps : (x s : ℕ) → x / 18446744073709551616 / 2 ^ s ≡ x / 2 ^ (64 + s)
 by-steps x s = div-div-eq-div-mul x (2 ^ 64) (2 ^ s) ∙ ap (λ (z : ℕ). x / z) (sym (pow-add 2 64 s))
@@ -26,32 +25,13 @@ none p h = ap (λ (z : ℕ). (z + 1) / 2) (sym (div-eq_of_lt (lt_of_lt_of_le (pr
 kept : (h s : ℕ) → h / 2 ^ s ≤ h
 kept h s = div-le_self h (2 ^ s)
 
-sub-s : tie.Need-overflow-sub-s
-sub-s c = search rules
+pub overflow_add-result : goal.overflow_add-result
+overflow_add-result c = omega (arith, kept c.high.result (1032 - c.args.p / 4503599627370496))
 
-add-m : tie.Need-overflow-add-m
-add-m c = search rules
-
-mul-m : tie.Need-overflow-mul-m
-mul-m c = search rules
-
-high-requires : tie.Need-high-requires
-high-requires c κs = search rules
-
-shr-result : tie.Need-overflow-shr-result
-shr-result c = search rules
-
-add-result : tie.Need-overflow-add-result
-add-result c = omega (arith, kept c.high.result (1032 - c.before.before.args.p / 4503599627370496))
-
-returns : tie.Need-returns
-returns c =
-    let p = c.before.before.args.p in
+pub returns-then-s-lt64 : goal.returns-then-s-lt64
+returns-then-s-lt64 c =
+    let p = c.args.p in
     (is p (1032 - p / 4503599627370496) c.high.result refl c.high.ensures.0, omega (arith, kept c.high.result (1032 - p / 4503599627370496)))
 
-returns-2 : tie.Need-returns-2
-returns-2 c = (none c.before.args.p c.if1.false, omega arith)
-
-pub scaled-spec : {M : Type 1} → statement M
-scaled-spec =
-    tie.close (tie.spec sub-s add-m mul-m high-requires shr-result add-result returns returns-2)
+pub returns-else-s-lt64 : goal.returns-else-s-lt64
+returns-else-s-lt64 c = (none c.args.p c.if-s-lt64.false, omega arith)

@@ -1,10 +1,9 @@
 -- `pattern` meets its contract: `placed-over`, `placed-above` or `placed_below`, which is 0 from 64 places off on.
-use Rattle.std.proofs.Common.{◌≡◌, ℕ, ◌+◌, ◌-◌, ◌*◌, ◌/◌, ◌^◌, ◌<◌, ◌≤◌, sym, ap, ◌∙◌, lt_of_lt_of_le, le_of_lt, div-le_self, arith, pow_mono, rules}
+use Rattle.std.proofs.Common.{◌≡◌, ℕ, ◌+◌, ◌-◌, ◌*◌, ◌/◌, ◌^◌, ◌<◌, ◌≤◌, sym, ap, ◌∙◌, lt_of_lt_of_le, le_of_lt, div-le_self, arith, pow_mono}
 use native.Mathlib.Nat.{div-eq_of_lt}
 use Rattle.powers.specs.Placed.{placed64}
 use Rattle.powers.proofs.PlacedAt.{placed-above, placed-over, placed_below}
-use Rattle.powers.proofs.power64.pattern.Statement.{statement}
-use Rattle.powers.proofs.power64.pattern.Tie as tie
+use Rattle.powers.proofs.power64.pattern.Goals as goal
 
 at : (n m : ℕ) → 1026 ≤ n → placed64 n m ≡ placed64 (1026 + (n - 1026)) m
 at n m h = let e : n ≡ 1026 + (n - 1026) = omega arith in ap (λ (z : ℕ). placed64 z m) e
@@ -34,53 +33,23 @@ below n m h k = placed_below 4503599627370496 1024 0x7ff0000000000000 1026 n m (
 halves : (q : ℕ) → (q / 1024 + 1) / 2 ≡ (q + 1024) / 2048
 halves q = omega arith
 
-returns : tie.Need-returns
-returns c = sym (over c.before.args.n c.before.args.m c.if1.true c.before.requires)
+pub returns-then-n-ge3072 : goal.returns-then-n-ge3072
+returns-then-n-ge3072 c = sym (over c.args.n c.args.m c.if-n-ge3072.true c.requires)
 
-mul-result : tie.Need-overflow-mul-result
-mul-result c = search rules
+pub returns-then-n-ge1026 : goal.returns-then-n-ge1026
+returns-then-n-ge1026 c = sym (own c.args.n c.args.m c.if-n-ge3072.false c.if-n-ge1026.true (omega arith))
 
-add-result : tie.Need-overflow-add-result
-add-result c = search rules
+pub overflow_add-result-then-j-lt64 : goal.overflow_add-result-then-j-lt64
+overflow_add-result-then-j-lt64 c = omega (arith, kept c.args.m (1026 - c.args.n) (omega arith))
 
-add-result-2 : tie.Need-overflow-add-result-2
-add-result-2 c = search rules
+pub returns-then-j-lt64 : goal.returns-then-j-lt64
+returns-then-j-lt64 c =
+    let n = c.args.n in
+    let m = c.args.m in
+    halves (m / 2 ^ (1026 - n)) ∙ sym (below n m c.if-n-ge1026.false (omega arith))
 
-returns-2 : tie.Need-returns-2
-returns-2 c = sym (own c.before.before.args.n c.before.before.args.m c.before.if1.false c.if2.true (omega arith))
-
-sub-j : tie.Need-overflow-sub-j
-sub-j c = search rules
-
-shr-result : tie.Need-overflow-shr-result
-shr-result c = search rules
-
-add-result-3 : tie.Need-overflow-add-result-3
-add-result-3 c = omega (arith, kept c.before.before.before.args.m (1026 - c.before.before.before.args.n) (omega arith))
-
-returns-3 : tie.Need-returns-3
-returns-3 c =
-    let n = c.before.before.before.args.n in
-    let m = c.before.before.before.args.m in
-    halves (m / 2 ^ (1026 - n)) ∙ sym (below n m c.before.if2.false (omega arith))
-
-returns-4 : tie.Need-returns-4
-returns-4 c =
-    let n = c.before.before.before.args.n in
-    let m = c.before.before.before.args.m in
-    sym (below n m c.before.if2.false (omega arith) ∙ gone m (1026 - n) (omega arith) c.if3.false)
-
-pub pattern-spec : {M : Type 1} → statement M
-pattern-spec =
-    tie.close
-    (tie.spec
-    returns
-    mul-result
-    add-result
-    add-result-2
-    returns-2
-    sub-j
-    shr-result
-    add-result-3
-    returns-3
-    returns-4)
+pub returns : goal.returns
+returns c =
+    let n = c.args.n in
+    let m = c.args.m in
+    sym (below n m c.if-n-ge1026.false (omega arith) ∙ gone m (1026 - n) (omega arith) c.if-j-lt64.false)
