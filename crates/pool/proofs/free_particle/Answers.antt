@@ -1,0 +1,8 @@
+-- `free_particle` meets its contract by computation.
+use mathlib.Core.Path.{refl}
+use Rattle.pool.specs.Pool.{free_particle}
+use Rattle.pool.proofs.free_particle.Goals as goal
+
+pub returns : goal.returns
+unfolding free_particle
+returns c = refl

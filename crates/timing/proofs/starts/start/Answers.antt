@@ -1,0 +1,7 @@
+-- `start` meets its contract: the callees' answers, put together.
+use Rattle.timing.specs.Starts.{start_of}
+use Rattle.timing.proofs.starts.start.Goals as goal
+
+pub returns : goal.returns
+unfolding start_of
+returns c = rw (c.f32_to_f64.ensures, c.floor32-step.ensures, c.random.ensures)
