@@ -1,0 +1,13 @@
+-- `offset` meets its contract: one test.
+use Rattle.std.proofs.Common.{refl, eq-eqb, ne_eqb}
+use Rattle.sequences.specs.Pick.{took, skipped}
+use Rattle.engine_changes.specs.Changes.{offset}
+use Rattle.engine_changes.proofs.offset.Goals as goal
+
+pub returns-then-engine-eq0 : goal.returns-then-engine-eq0
+unfolding offset
+returns-then-engine-eq0 c = took _ _ _ _ (eq-eqb _ _ c.if-engine-eq0.true) (rw c.f32_to_f64-to.ensures)
+
+pub returns : goal.returns
+unfolding offset
+returns c = skipped _ _ _ _ (ne_eqb _ _ c.if-engine-eq0.false) refl

@@ -1,0 +1,13 @@
+-- `sought_phase` meets its contract: one test.
+use Rattle.std.proofs.Common.{sym, refl, ◌∙◌}
+use Rattle.sequences.specs.Pick.{took, skipped}
+use Rattle.engine_changes.specs.Changes.{sought_phase}
+use Rattle.engine_changes.proofs.sought_phase.Goals as goal
+
+pub returns-then-is_finite64 : goal.returns-then-is_finite64
+unfolding sought_phase
+returns-then-is_finite64 c = took _ _ _ _ (sym c.is_finite64.ensures ∙ c.if-is_finite64.true) c.rem_euclid64.ensures
+
+pub returns : goal.returns
+unfolding sought_phase
+returns c = skipped _ _ _ _ (sym c.is_finite64.ensures ∙ c.if-is_finite64.false) refl

@@ -1,0 +1,7 @@
+-- `radius` meets its contract: the callees' answers, put together.
+use Rattle.frame.specs.Windows.{radius_of}
+use Rattle.frame.proofs.partials.radius.Goals as goal
+
+pub returns : goal.returns
+unfolding radius_of
+returns c = rw (c.max32-3.ensures, c.log2.ensures, c.max32-2.ensures, c.max32.ensures)

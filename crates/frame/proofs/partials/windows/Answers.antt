@@ -1,0 +1,35 @@
+-- `windows` meets its contract: the loops fill by place and window, and leave the windows that show nothing.
+use Rattle.std.proofs.Common.{◌-◌, ◌∙◌, ⊎_elim, arith, rules}
+use Rattle.windows.specs.Opening.{empty_window}
+use Rattle.frame.specs.Windows.{windows_of}
+use Rattle.frame.proofs.Blank.{blank_none, blank_turns, blank_stored, blank_left, blank_all}
+use Rattle.frame.proofs.Harmonic.{row_shows, other-shows-none, at_place}
+use Rattle.frame.proofs.partials.windows.Goals as goal
+
+pub loop-p-init : goal.loop-p-init
+loop-p-init c = blank_none _ empty_window _ c.empty_window-none.ensures
+
+pub loop-w-init : goal.loop-w-init
+loop-w-init c = (omega arith, blank_turns _ _ _ _ _ c.loop-p.invariant (omega arith))
+
+pub loop-w-preserved : goal.loop-w-preserved
+loop-w-preserved c =
+    let m = c.loop-w.invariant.1 in
+    let row = c.row-row.ensures in
+    let place = c.loop-p-test.true in (
+      search rules,
+      ⊎_elim
+          (λ u.
+          rw u.3
+          (blank_stored _ _ _ _ _ m place (search rules) _
+          (u.2.ensures ∙ row_shows _ _ _ _ _ _ u.0.taken (row.0 u.0.taken) ∙ at_place _ _ _ _ _ _ place)))
+          (λ u. rw u.1 (blank_left _ _ _ _ _ m place (search rules) (other-shows-none _ _ _ _ _ (row.1 u.0.left) ∙ at_place _ _ _ _ _ _ place)))
+          c.if-row-lt-MAX_PARTIALS.branch,
+    )
+
+pub loop-p-preserved : goal.loop-p-preserved
+loop-p-preserved c = blank_turns _ _ _ _ _ c.loop-w.invariant.1 (omega (arith, c.loop-w.invariant.0, c.loop-w-test.false))
+
+pub returns : goal.returns
+unfolding windows_of
+returns c = blank_all _ _ _ _ c.loop-p.invariant (omega (arith, c.loop-p-test.false))

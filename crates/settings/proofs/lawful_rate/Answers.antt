@@ -1,0 +1,15 @@
+-- `lawful_rate` meets its contract: one test after the other.
+use Rattle.settings.specs.Settings.{lawful_rate}
+use Rattle.settings.proofs.lawful_rate.Goals as goal
+
+pub returns-then-sample_rate : goal.returns-then-sample_rate
+unfolding lawful_rate
+returns-then-sample_rate c = rw (← c.is_finite32.ensures, c.if-is_finite32.true, c.if-sample_rate.true)
+
+pub returns-else-sample_rate : goal.returns-else-sample_rate
+unfolding lawful_rate
+returns-else-sample_rate c = rw (← c.is_finite32.ensures, c.if-is_finite32.true, c.if-sample_rate.false)
+
+pub returns-else-is_finite32 : goal.returns-else-is_finite32
+unfolding lawful_rate
+returns-else-is_finite32 c = rw (← c.is_finite32.ensures, c.if-is_finite32.false)

@@ -1,0 +1,7 @@
+-- `held` meets its contract: the callees' answers, put together.
+use Rattle.settings.specs.Mending.{held_to}
+use Rattle.settings.proofs.mending.held.Goals as goal
+
+pub returns : goal.returns
+unfolding held_to
+returns c = rw (c.clamp32.ensures, c.finite.ensures)
