@@ -1,5 +1,5 @@
 -- One try of a lane: not due, moved on in silence, or moved on with a birth.
-use Rattle.std.proofs.Common.{◌≡◌, ℕ, Bool, true, false, get_or, set, sym, refl, ap, ◌∙◌}
+use Rattle.std.proofs.Common.{◌≡◌, ℕ, ◌/◌, Bool, true, false, get_or, set, sym, refl, ap, ◌∙◌}
 use lib.Ieee.{Float, lt}
 use Rattle.sequences.specs.Pick.{pick, took, skipped}
 use Rattle.draws.specs.Draws.{key_of}
@@ -12,6 +12,10 @@ use Rattle.births.specs.Birth.{born_of}
 use Rattle.births.specs.Arrival.{arrival_of, with_arrival}
 use Rattle.births.proofs.Born.{born-by}
 use Rattle.engine_samples.specs.Sample.{moved, tried_of}
+
+-- a try of every lane in its turn, two for each
+abbrev pub try : Float → ℕ → Engine → Engine
+try reference k e = tried_of e (k / 2) reference
 
 -- both tests in one
 heard : {A : Type 0} (t u : Bool) (a b : A) → pick t u false ≡ true → a ≡ pick t (pick u a b) b

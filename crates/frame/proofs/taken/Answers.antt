@@ -1,6 +1,6 @@
 -- `taken` meets its contract: one pass that frees in place, counts what it frees and shows beside it, and
 -- the callees' answers, put together.
-use Rattle.std.proofs.Common.{◌-◌, sym, ap, ◌∙◌, ⊎_elim, rules}
+use Rattle.std.proofs.Common.{◌-◌, sym, ap, ◌∙◌, rules}
 use Rattle.sequences.specs.Pick.{picked, passed}
 use Rattle.sequences.specs.Walk.{walked_none, walked_more, walked_all}
 use Rattle.frame.specs.Freed.{is_freed}
@@ -9,6 +9,7 @@ use Rattle.frame.proofs.Pass.{pass_none, pass_read, pass_changed, pass_kept, pas
 use Rattle.frame.proofs.Swept.{due-is-freed, other_stays, free-shows-nothing}
 use Rattle.frame.specs.Call.{held_of, freed_of, windows_by, renewed_of, taken_of}
 use Rattle.frame.proofs.taken.Goals as goal
+use Rattle.frame.proofs.taken.Goals.{then-freed, else-freed}
 
 pub loop-i-init : goal.loop-i-init
 loop-i-init c = (pass_none _ _ _ 64 _ _ (search rules) (search rules), walked_none _ 64 _ 0 (search rules), search rules)
@@ -19,21 +20,21 @@ loop-i-preserved c =
     let m = inv.0 in
     let free = c.free_particle-free.ensures in
     let freed = c.freed.ensures in
-    ⊎_elim
-    (λ w.
-    rw (w.1, w.2) (
-      pass_changed _ _ _ 64 _ _ _ _ m _ _ _ (search rules) (free ∙ due-is-freed _ _ _ (sym freed ∙ w.0.taken))
-          (c.nothing_shown-nothing.ensures ∙ free-shows-nothing _ _ ∙ ap (shown_of _ _) (sym free)),
-      walked_more inv.1 _ _ (search rules) (w.3 ∙ picked _ _ _ (sym (ap (is_freed _ _ 0) (pass_read _ _ _ 64 _ _ _ _ m _)) ∙ sym freed ∙ w.0.taken)),
-      search rules,
-    ))
-    (λ w.
-    rw (w.2, w.3) (
-      pass_kept _ _ _ 64 _ _ _ _ m _ _ (search rules) (other_stays _ _ _ (sym freed ∙ w.0.left)) w.1.ensures,
-      walked_more inv.1 _ _ (search rules) (w.4 ∙ passed _ _ _ (sym (ap (is_freed _ _ 0) (pass_read _ _ _ 64 _ _ _ _ m _)) ∙ sym freed ∙ w.0.left)),
-      search rules,
-    ))
-    c.if-freed.branch
+    elim c.if-freed.branch [
+      then-freed w ↦
+        rw (w.held-is, w.shown-is) (
+          pass_changed _ _ _ 64 _ _ _ _ m _ _ _ (search rules) (free ∙ due-is-freed _ _ _ (sym freed ∙ w.if-freed.true))
+              (c.nothing_shown-nothing.ensures ∙ free-shows-nothing _ _ ∙ ap (shown_of _ _) (sym free)),
+          walked_more inv.1 _ _ (search rules) (w.freed-is ∙ picked _ _ _ (sym (ap (is_freed _ _ 0) (pass_read _ _ _ 64 _ _ _ _ m _)) ∙ sym freed ∙ w.if-freed.true)),
+          search rules,
+        )
+    | else-freed w ↦
+        rw (w.held-is, w.shown-is) (
+          pass_kept _ _ _ 64 _ _ _ _ m _ _ (search rules) (other_stays _ _ _ (sym freed ∙ w.if-freed.false)) w.show.ensures,
+          walked_more inv.1 _ _ (search rules) (w.freed-is ∙ passed _ _ _ (sym (ap (is_freed _ _ 0) (pass_read _ _ _ 64 _ _ _ _ m _)) ∙ sym freed ∙ w.if-freed.false)),
+          search rules,
+        )
+    ]
 
 pub returns : goal.returns
 unfolding taken_of windows_by held_of freed_of renewed_of

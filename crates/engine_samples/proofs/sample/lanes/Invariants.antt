@@ -1,5 +1,6 @@
 use Rattle.std.proofs.Common.{◌≡◌, ◌-◌, ◌≤◌}
 use Rattle.sequences.specs.Times.{times}
+use Rattle.engine_samples.proofs.Tries.{try}
 use Rattle.engine_samples.proofs.sample.lanes.Given as goal
 
 abbrev pub invariant-loop-k : goal.invariant-loop-k

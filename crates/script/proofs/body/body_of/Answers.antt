@@ -3,7 +3,7 @@ use Prim.Native.Nat.{◌-◌}
 use native.Mathlib.Omega.{arith}
 use lib.Dec.{eqb}
 use lib.ListN.{length}
-use borrow.Author.Tests.{le-leb, lt-leb, ltb-true, ltb-false, not-true, not-false}
+use borrow.Author.Tests.{le-leb, lt-leb, eq-eqb, ne_eqb}
 use Rattle.script.specs.Field.{body_of}
 use Rattle.script.proofs.Part.{rest}
 use Rattle.script.proofs.body.body_of.Goals as goal
@@ -13,7 +13,7 @@ unfolding body_of
 returns-then-wrong c =
     let said = c.be16_at-said.result in
     let n = c.row_of-row.result.length in
-    rw (← c.be16_at-said.ensures, ← c.row_of-row.ensures.0, not-true (eqb said n) c.if-wrong.true)
+    rw (← c.be16_at-said.ensures, ← c.row_of-row.ensures.0, ne_eqb said n c.if-wrong.true)
 
 pub returns-then-cut : goal.returns-then-cut
 unfolding body_of
@@ -21,13 +21,13 @@ returns-then-cut c =
     let s = c.args.s.now in
     let said = c.be16_at-said.result in
     let n = c.row_of-row.result.length in
-    rw (← c.be16_at-said.ensures, ← c.row_of-row.ensures.0, not-false (eqb said n) c.if-wrong.false, lt-leb n (length s - 3) (ltb-true (length s - 3) n c.if-cut.true))
+    rw (← c.be16_at-said.ensures, ← c.row_of-row.ensures.0, eq-eqb said n c.if-wrong.false, lt-leb n (length s - 3) c.if-cut.true)
 
 pub overflow_add-result : goal.overflow_add-result
 overflow_add-result c =
     let s = c.args.s.now in
     let n = c.row_of-row.result.length in
-    omega (arith, ltb-false (length s - 3) n c.if-cut.false, c.well_formed.1.0)
+    omega (arith, c.if-cut.false, c.well_formed.1.0)
 
 pub returns-then-row : goal.returns-then-row
 unfolding body_of
@@ -36,7 +36,7 @@ returns-then-row c =
     let said = c.be16_at-said.result in
     let n = c.row_of-row.result.length in
     let row = rw (rest 3 s) at c.row_of-row.ensures in
-    rw (← c.be16_at-said.ensures, ← row.0, not-false (eqb said n) c.if-wrong.false, le-leb n (length s - 3) (ltb-false (length s - 3) n c.if-cut.false), ← row.1, c.if-row.true, ← row.2)
+    rw (← c.be16_at-said.ensures, ← row.0, eq-eqb said n c.if-wrong.false, le-leb n (length s - 3) c.if-cut.false, ← row.1, c.if-row.true, ← row.2)
 
 pub returns-else-row : goal.returns-else-row
 unfolding body_of
@@ -45,4 +45,4 @@ returns-else-row c =
     let said = c.be16_at-said.result in
     let n = c.row_of-row.result.length in
     let row = rw (rest 3 s) at c.row_of-row.ensures in
-    rw (← c.be16_at-said.ensures, ← row.0, not-false (eqb said n) c.if-wrong.false, le-leb n (length s - 3) (ltb-false (length s - 3) n c.if-cut.false), ← row.1, c.if-row.false)
+    rw (← c.be16_at-said.ensures, ← row.0, eq-eqb said n c.if-wrong.false, le-leb n (length s - 3) c.if-cut.false, ← row.1, c.if-row.false)

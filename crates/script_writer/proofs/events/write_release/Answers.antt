@@ -1,0 +1,7 @@
+-- `write_release` meets its contract: its tag and its value.
+use Rattle.script_writer.specs.Encoded.{encoded}
+use Rattle.script_writer.proofs.events.write_release.Goals as goal
+
+pub returns : goal.returns
+unfolding encoded
+returns c = rw c.bytes16.ensures at c.write_tagged.ensures
