@@ -5,7 +5,7 @@ use Rattle.script_writer.proofs.Config.{config-spelled}
 use Rattle.script_writer.proofs.values.config_value.Goals as goal
 
 pub returns : goal.returns
-returns c = 
+returns c =
     config-spelled
     c.args.c
     c.flag.ensures

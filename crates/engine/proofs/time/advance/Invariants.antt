@@ -1,0 +1,11 @@
+use Prim.Native.Nat.{◌≤◌, ◌-◌}
+use mathlib.Core.Path.{◌≡◌}
+use Rattle.sequences.specs.Times.{iterate}
+use Rattle.engine_samples.specs.Sample.{stepped_of}
+use Rattle.engine.proofs.time.advance.Given as goal
+
+abbrev pub invariant-loop-i : goal.invariant-loop-i
+invariant-loop-i l = (l.i ≤ l.samples) × (l.out ≡ iterate stepped_of l.i l.initial.out)
+
+abbrev pub decreases-loop-i : goal.decreases-loop-i
+decreases-loop-i l = l.samples - l.i
