@@ -4,7 +4,7 @@ use mathlib.Core.Path.{◌≡◌, refl, sym, ◌∙◌, subst}
 use mathlib.Core.Logic.{inl}
 use mathlib.Core.Bool.{true≢false}
 use lib.Dec.{T}
-use lib.ListN.{length, get_or, length_map}
+use lib.ListN.{length, get_or, length-map}
 use lib.Ieee.{Float, binary32, fits, of_bits}
 use Rattle.sequences.specs.Pick.{either, by-case}
 use Rattle.floats_laws.proofs.Proportions.{Proportion, nought_unit}
@@ -45,7 +45,7 @@ all_held e s =
 
 all-places : (e : Engine) → Sound e → length (held_of e) ≡ 64
 unfolding held_of
-all-places e s = length_map e.particles _ ∙ s.places
+all-places e s = length-map e.particles _ ∙ s.places
 
 -- ---- the engine
 pub sound_renewed : (e : Engine) (activity : Float) → Proportion activity → Sound e → Sound (renewed_of e (held_of e) (freed_of e) activity)

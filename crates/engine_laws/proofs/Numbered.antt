@@ -6,7 +6,7 @@ use mathlib.Core.Bool.{true}
 use mathlib.Core.List.{List, [], ◌∷◌, map}
 use borrow.Author.Tests.{ltb-true}
 use lib.Dec.{ltb}
-use lib.ListN.{length, set, length_map, length-set}
+use lib.ListN.{length, set, length-map, length-set}
 use lib.Ieee.{Float}
 use Rattle.sequences.specs.Counts.{count_set, count_kept, count-split}
 use Rattle.sequences.specs.Every.{in_case}
@@ -94,7 +94,7 @@ numbered-born e index own w =
 
 -- ---- a retirement and a new pitch leave who holds a place in it
 numbered_mapped : (e : Engine) (f : Particle → Particle) → ((p : Particle) → (f p).active ≡ p.active) → Numbered e → Numbered (with_particles e (map f e.particles))
-numbered_mapped e f h w = record { places = length_map e.particles f ∙ w.places; number = w.number ∙ sym (count_kept is_held f (λ i p. h p) e.particles) }
+numbered_mapped e f h w = record { places = length-map e.particles f ∙ w.places; number = w.number ∙ sym (count_kept is_held f (λ i p. h p) e.particles) }
 
 abbrev AsActive : Particle → Particle → Type 0
 AsActive p x = x.active ≡ p.active
@@ -122,7 +122,7 @@ numbered-renewed e activity w =
     let rate = e.prepared.sample_rate in
     let most = count_most is_held e.particles in
     let split = count-split is_held (sweep_one sample rate) (is_freed sample rate) (λ i p. held_or_freed sample rate p) e.particles in
-    record { places = length_map e.particles (sweep_one sample rate) ∙ w.places; number = so_many_fewer e.tally.held (active_count e.particles) (freed_of e) (active_count (held_of e)) w.number (omega (arith, w.places)) split }
+    record { places = length-map e.particles (sweep_one sample rate) ∙ w.places; number = so_many_fewer e.tally.held (active_count e.particles) (freed_of e) (active_count (held_of e)) w.number (omega (arith, w.places)) split }
 
 -- ---- every act, and every call
 numbered-act : (e : Engine) (a : Act) → Numbered e → Numbered (act e a)

@@ -6,7 +6,7 @@ use mathlib.Core.Bool.{Bool, true}
 use mathlib.Core.List.{List, map}
 use lib.Dec.{T, lit≤}
 use lib.Pow.{pow_pos}
-use lib.ListN.{length, length_map, length-set}
+use lib.ListN.{length, length-map, length-set}
 use lib.Ieee.{Float, binary32, fits, of_bits, of_fields, rem, add, sum, round, le, lt, eq, odd}
 use lib.Ieee.Bits.{of_bits-fits}
 use Rattle.state.specs.declared.Clock.{Clock}
@@ -136,7 +136,7 @@ sound_source e slot x f s =
 -- ---- every place by one function
 pub sound_mapped : (e : Engine) (g : Particle → Particle) → Sound e → ((p : Particle) → FitPlace e.clock.sample p → FitPlace e.clock.sample (g p)) → Sound (with_particles e (map g e.particles))
 sound_mapped e g s h =
-    sound_particles e (map g e.particles) s (length_map e.particles g ∙ s.places)
+    sound_particles e (map g e.particles) s (length-map e.particles g ∙ s.places)
     (every_map (FitPlace e.clock.sample) (FitPlace e.clock.sample) g h e.particles s.held)
 
 pub sound_retired : (e : Engine) → Sound e → Sound (retired_all e)

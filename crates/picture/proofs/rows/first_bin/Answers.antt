@@ -14,7 +14,7 @@ unfolding first_bin
 returns-then-row-lt8 c = search (rules, cases)
 
 pub overflow_mul-result : goal.overflow_mul-result
-overflow_mul-result c = 
+overflow_mul-result c =
     let few : 8 + c.args.row % 8 ≤ 15 = omega arith in
     let most = mul-le-mul few c.width.ensures.1 in
     omega (arith, most)

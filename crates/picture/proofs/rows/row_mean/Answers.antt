@@ -12,12 +12,12 @@ pub slice_bounds-mean-start : goal.slice_bounds-mean-start
 slice_bounds-mean-start c = omega (arith, row_has_a_bin c.args.row c.requires.0)
 
 pub mean-requires : goal.mean-requires
-mean-requires c = 
+mean-requires c =
     let has = row_has_a_bin c.args.row c.requires.0 in
     simp (length-take, length-drop) (omega arith)
 
 pub returns : goal.returns
 unfolding row_entries
-returns c = 
+returns c =
     rw (← c.first_bin-first.ensures, ← c.first_bin.ensures, ← c.least-upto.ensures)
     c.mean.ensures

@@ -15,7 +15,7 @@ pub overflow_add-total : goal.overflow_add-total
 overflow_add-total c = omega (arith, c.shared_slice_known-1.given c.loop-i.i)
 
 pub loop-i-preserved : goal.loop-i-preserved
-loop-i-preserved c = 
+loop-i-preserved c =
     let es = c.args.entries.now in
     let i = c.loop-i.i in
     let here = sum_drop es i c.loop-i-test.true in
@@ -23,6 +23,6 @@ loop-i-preserved c =
     (rw add-one (omega (arith, here)), omega (arith, small), omega arith)
 
 pub returns : goal.returns
-returns c = 
+returns c =
     let es = c.args.entries.now in
     omega (arith, sum-none es c.loop-i.i c.loop-i-test.false)

@@ -7,7 +7,7 @@ use Rattle.picture.proofs.rows.width.Goals as goal
 
 pub returns : goal.returns
 unfolding row_width
-returns c = 
+returns c =
     let row = c.args.row in
     let h : row / 8 < 12 = omega arith in
     (width_is (row / 8) h, width_most (row / 8) h)

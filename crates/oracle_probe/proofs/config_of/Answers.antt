@@ -1,0 +1,7 @@
+-- `config_of` meets its contract: field by field.
+use Rattle.oracle_probe.specs.Numbers.{probed_config}
+use Rattle.oracle_probe.proofs.config_of.Goals as goal
+
+pub returns : goal.returns
+unfolding probed_config
+returns c = rw (c.direction_from-direction.ensures, c.shape_from-shape.ensures)

@@ -1,0 +1,5 @@
+-- `rk_probe_min32` meets its contract: it is its callee's.
+use Rattle.oracle_probe.proofs.rk_probe_min32.Goals as goal
+
+pub returns : goal.returns
+returns c = c.min32.ensures
