@@ -1,25 +1,26 @@
 -- `rk_probe_active_counts` meets its contract: the engine and the sum go on by one event a turn.
-use Rattle.std.proofs.Common.{◌-◌, refl, ap, ◌∙◌, ⊎_elim, rules}
+use Rattle.std.proofs.Common.{◌-◌, refl, ap, ◌∙◌, rules}
 use Rattle.sequences.specs.Times.{iterate-none, iterate-more}
 use Rattle.engine_triggers.specs.declared.Triggered.{Triggered}
 use Rattle.oracle_probe.specs.Counts.{fired, asked_of}
 use Rattle.oracle_probe.proofs.Asked.{with_answer, without}
 use Rattle.oracle_probe.proofs.counts.rk_probe_active_counts.Goals as goal
+use Rattle.oracle_probe.proofs.counts.rk_probe_active_counts.Goals.{then-asked, else-asked}
 
 pub loop-i-init : goal.loop-i-init
 unfolding asked_of
 loop-i-init c = (c.sounding_engine-engine.ensures ∙ iterate-none _ _, refl, search rules)
 
 pub loop-i-preserved : goal.loop-i-preserved
-loop-i-preserved c = 
+loop-i-preserved c =
     let inv = c.loop-i.invariant in
     let fires = iterate-more fired _ _ _ _ inv.0 (ap (λ (t : Triggered). t.engine) c.trigger-triggered.ensures) in
-    ⊎_elim
-    (λ w. (fires, with_answer _ _ _ inv.1 _ _ _ w.0.taken fires w.1.ensures (w.3 ∙ w.2.ensures), search rules))
-    (λ w. (fires, w.1 ∙ without _ _ _ inv.1 w.0.left, search rules))
-    c.if-asked.branch
+    elim c.if-asked.branch [
+      then-asked w ↦ (fires, with_answer _ _ _ inv.1 _ _ _ w.if-asked.true fires w.active_count.ensures (w.sum-is ∙ w.wrapping_add_u64-sum.ensures.value), search rules)
+    | else-asked w ↦ (fires, w.sum-is ∙ without _ _ _ inv.1 w.if-asked.false, search rules)
+    ]
 
 pub returns : goal.returns
-returns c = 
+returns c =
     let inv = c.loop-i.invariant in
     inv.1 ∙ ap (asked_of _) (search rules)

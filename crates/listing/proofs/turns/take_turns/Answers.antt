@@ -1,0 +1,116 @@
+-- `take_turns` meets its contract: each field's turn is the definition's, and the turns go as far as is asked for.
+use Rattle.std.proofs.Common.{◌≡◌, ℕ, ◌+◌, ◌-◌, ◌≤◌, length, sym, ap, ◌∙◌, subst, ⊎_elim, arith}
+use Rattle.script.proofs.Part.{rest}
+use Rattle.script_steps.specs.Steps.{step_of}
+use Rattle.script_steps.specs.declared.Run.{Run}
+use Rattle.engine_triggers.specs.declared.Reserved.{Reserved}
+use Rattle.listing.proofs.Going.{Going, none-ends, going_start, going_ends, going_on, further}
+use Rattle.listing.specs.declared.turns.Turn.{Turn}
+use Rattle.listing.specs.Reaching.{reached_at}
+use Rattle.listing.proofs.TurnLaws.{taken-left}
+use Rattle.listing.specs.Turns.{told_of, turn_of}
+use Rattle.listing.specs.declared.lines.Line.TheVariants as L
+use Rattle.listing.proofs.Fields.{left, by-done, by-trigger, by-quiet, by-frame, by_no_frame, turn_as, turn_of_lem}
+use Rattle.listing.proofs.turns.take_turns.Goals as goal
+use Rattle.listing.proofs.turns.take_turns.Goals.{After-replied-said, Joined-field}
+
+-- what the field's call left is what the definition has
+stepped : (c : Joined-field) → left c.match-field.engine c.match-field.frame c.match-field.reply ≡ step_of (record { engine = c.loop-field.engine; frame = c.loop-field.frame }) c.in-Field.field
+unfolding step_of
+stepped c =
+    let run : Run = record { engine = c.loop-field.engine; frame = c.loop-field.frame } in
+    let e = c.match-field.engine in
+    let f = c.match-field.frame in
+    let r = c.match-field.reply in
+    ⊎_elim (λ w. by-done run e f r w.3.result _ w.3.ensures w.6 w.7 (w.8 ∙ w.5.ensures) ∙ sym (ap (step_of run) w.1.given.1))
+    (⊎_elim (λ w. by-done run e f r w.3.result _ w.3.ensures w.6 w.7 (w.8 ∙ w.5.ensures) ∙ sym (ap (step_of run) w.1.given.1))
+    (⊎_elim (λ w. by-done run e f r w.3.result _ w.3.ensures w.6 w.7 (w.8 ∙ w.5.ensures) ∙ sym (ap (step_of run) w.1.given.1))
+    (⊎_elim (λ w. by-done run e f r w.3.result _ w.3.ensures w.6 w.7 (w.8 ∙ w.5.ensures) ∙ sym (ap (step_of run) w.1.given.1))
+    (⊎_elim (λ w. by-done run e f r w.3.result _ w.3.ensures w.6 w.7 (w.8 ∙ w.5.ensures) ∙ sym (ap (step_of run) w.1.given.1))
+    (⊎_elim (λ w. by-trigger run e f r w.3.result _ w.3.ensures w.6 w.7 (w.8 ∙ w.5.ensures) ∙ sym (ap (step_of run) w.1.given.1))
+    (⊎_elim (λ w. by-quiet run e f r w.3.result _ w.3.ensures w.4 w.5 w.6 ∙ sym (ap (step_of run) w.1.given.1))
+    (⊎_elim (λ w. by-done run e f r w.3.result _ w.3.ensures w.6 w.7 (w.8 ∙ w.5.ensures) ∙ sym (ap (step_of run) w.1.given.1))
+    (⊎_elim (λ w. by-frame run e f r w.3.result _ w.3.ensures w.9 w.8.result w.6.given.1 w.10 w.8.ensures w.11 ∙ sym (ap (step_of run) w.1.given.1))
+    (⊎_elim (λ w. by_no_frame run e f r w.3.result _ w.3.ensures w.8 _ w.6.given.1 w.9 w.10 ∙ sym (ap (step_of run) w.1.given.1))
+    (⊎_elim (λ w. by-quiet run e f r w.3.result _ w.3.ensures w.4 w.5 w.6 ∙ sym (ap (step_of run) w.1.given.1))
+    (⊎_elim (λ w. by-quiet run e f r w.2.result _ w.2.ensures w.3 w.4 w.5 ∙ sym (ap (step_of run) w.1.given.1))
+    (⊎_elim (λ w. by-quiet run e f r w.2.result.engine _ (ap (λ (x : Reserved). x.engine) w.2.ensures) w.4 w.5 w.6 ∙ sym (ap (step_of run) w.1.given.1))
+    (λ w. by-trigger run e f r w.3.result _ w.3.ensures w.6 w.7 (w.8 ∙ w.5.ensures) ∙ sym (ap (step_of run) w.1.given.1))))))))))))))
+    c.match-field.branch
+
+-- the turn of the field
+turned : (c : After-replied-said)
+    → told_of (record { engine = c.match-field.engine; frame = c.match-field.frame }) c.replied-said.result.line c.replied-said.result.taken
+    ≡ turn_of (record { engine = c.loop-field.engine; frame = c.loop-field.frame }) c.loop-field.n c.loop-field.at c.args.script.now
+turned c =
+    let at = c.loop-field.at in
+    let s = c.args.script.now in
+    turn_of_lem _ _ at s _ (rw (rest at s) at c.read_field-read.ensures) _ _ _ _ _ _ c.in-Field.is (stepped (goal.at.X c).Joined-field) c.replied-said.ensures
+
+pub loop-field-init : goal.loop-field-init
+loop-field-init c = let a = c.args in going_start a.until a.script.now a.run a.n a.at c.requires
+
+pub slice_bounds-read_field-count : goal.slice_bounds-read_field-count
+slice_bounds-read_field-count c = let fits = c.loop-field.invariant.within in omega arith
+
+pub slice_bounds-read_field-start : goal.slice_bounds-read_field-start
+slice_bounds-read_field-start c = let fits = c.loop-field.invariant.within in omega arith
+
+pub slice_bounds-read_field-end : goal.slice_bounds-read_field-end
+slice_bounds-read_field-end c = let fits = c.loop-field.invariant.within in omega arith
+
+pub overflow_add-at : goal.overflow_add-at
+overflow_add-at c =
+    let a = c.args in
+    let l = c.loop-field in
+    let run : Run = record { engine = l.engine; frame = l.frame } in
+    let eq = turned (goal.at.overflow_add-at c).After-replied-said in
+    let le : c.replied-said.result.taken ≤ length a.script.now - l.at = taken-left run l.n l.at a.script.now _ eq in
+    let more = further a.until a.script.now a.run a.n a.at run l.n l.at l.invariant _ eq (sym c.goes_on.ensures ∙ c.if-goes_on.true) in
+    omega (arith, le, c.well_formed.1.1.1.1.0)
+
+pub loop-field-smaller : goal.loop-field-smaller
+loop-field-smaller c =
+    let a = c.args in
+    let l = c.loop-field in
+    let run : Run = record { engine = l.engine; frame = l.frame } in
+    let eq = turned (goal.at.loop-field-smaller c).After-replied-said in
+    let le : c.replied-said.result.taken ≤ length a.script.now - l.at = taken-left run l.n l.at a.script.now _ eq in
+    let more = further a.until a.script.now a.run a.n a.at run l.n l.at l.invariant _ eq (sym c.goes_on.ensures ∙ c.if-goes_on.true) in
+    omega arith
+
+pub loop-field-preserved : goal.loop-field-preserved
+loop-field-preserved c =
+    let a = c.args in
+    let l = c.loop-field in
+    let run : Run = record { engine = l.engine; frame = l.frame } in
+    let eq = turned (goal.at.loop-field-preserved c).After-replied-said in
+    subst (λ (m : ℕ). Going a.until a.script.now a.run a.n a.at (record { engine = c.match-field.engine; frame = c.match-field.frame }) m (l.at + c.replied-said.result.taken)) (sym c.wrapping_add_u64-n.ensures.value) (going_on a.until a.script.now a.run a.n a.at run l.n l.at l.invariant _ eq (sym c.goes_on.ensures ∙ c.if-goes_on.true))
+
+pub returns-else-goes_on : goal.returns-else-goes_on
+returns-else-goes_on c =
+    let a = c.args in
+    let l = c.loop-field in
+    let run : Run = record { engine = l.engine; frame = l.frame } in
+    let eq = turned (goal.at.returns-else-goes_on c).After-replied-said in
+    c.reach.ensures ∙ ap (λ (t : Turn). reached_at t l.n l.at) c.told.ensures ∙ going_ends a.until a.script.now a.run a.n a.at run l.n l.at l.invariant _ eq (sym c.goes_on.ensures ∙ c.if-goes_on.false)
+
+pub returns-in-Bad : goal.returns-in-Bad
+returns-in-Bad c =
+    let a = c.args in
+    let l = c.loop-field in
+    let run : Run = record { engine = l.engine; frame = l.frame } in
+    let is = rw (rest l.at a.script.now) at c.read_field-read.ensures in
+    let eq = turn_as run l.n l.at a.script.now _ is _ c.in-Bad.is in
+    let told = c.told-in-Bad.ensures ∙ ap (λ (p : ℕ). told_of run (L.Bad l.n c.in-Bad.refusal p) 0) c.bad_place-place.ensures in
+    c.reach-in-Bad.ensures ∙ ap (λ (t : Turn). reached_at t l.n l.at) told ∙ going_ends a.until a.script.now a.run a.n a.at run l.n l.at l.invariant _ eq (none-ends a.until _)
+
+pub returns-in-End : goal.returns-in-End
+returns-in-End c =
+    let a = c.args in
+    let l = c.loop-field in
+    let run : Run = record { engine = l.engine; frame = l.frame } in
+    let is = rw (rest l.at a.script.now) at c.read_field-read.ensures in
+    let eq = turn_as run l.n l.at a.script.now _ is _ c.in-End.is in
+    let told = c.told-in-End.ensures ∙ ap (λ (x : ℕ). told_of run (L.End x) 0) c.before-in-End.ensures in
+    c.reach-in-End.ensures ∙ ap (λ (t : Turn). reached_at t l.n l.at) told ∙ going_ends a.until a.script.now a.run a.n a.at run l.n l.at l.invariant _ eq (none-ends a.until _)

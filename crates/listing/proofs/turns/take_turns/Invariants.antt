@@ -1,0 +1,10 @@
+use Rattle.std.proofs.Common.{◌-◌, length}
+use Rattle.listing.proofs.Going.{Going}
+use Rattle.listing.specs.declared.lines.Line.TheVariants as L
+use Rattle.listing.proofs.turns.take_turns.Given as goal
+
+abbrev pub invariant-loop-field : goal.invariant-loop-field
+invariant-loop-field l = Going l.until l.script (record { engine = l.initial.engine; frame = l.initial.frame }) l.n-2 l.at-2 (record { engine = l.engine; frame = l.frame }) l.n l.at
+
+abbrev pub decreases-loop-field : goal.decreases-loop-field
+decreases-loop-field l = length l.script - l.at
