@@ -28,7 +28,7 @@ returns-then-k-eq0 c =
     let turn = line_turn s l.run l.n l.at r eq l.invariant.2 l.invariant.0 top in
     let le : r.turn.taken ≤ length s - r.at = taken-left (before_line s l.run l.n l.at r eq l.invariant.2 l.invariant.0 top) r.n r.at s r.turn turn in
     let put = written c.next_line-reached.result.turn.line c.put_line-w.ensures in
-    stop s a.out.now a.w _ l.out c.put_line-w.new.0 (before_line s l.run l.n l.at r eq l.invariant.2 l.invariant.0 top) r.n r.at l.w c.put_line-w.result r.turn
+    stop s a.out.now a.w _ l.out c.put_line-w.new.out (before_line s l.run l.n l.at r eq l.invariant.2 l.invariant.0 top) r.n r.at l.w c.put_line-w.result r.turn
     (omega arith) few fits (line_goes s l.run l.n l.at r eq l.invariant.2 l.invariant.0 top a.out.now a.w _ l.out l.w l.invariant.4) turn put c.if-k-eq0.true
 
 pub overflow_add-at : goal.overflow_add-at
@@ -96,6 +96,6 @@ loop-reached-preserved c =
       omega arith,
       omega arith,
       put.same ∙ l.invariant.3,
-      go_on s a.out.now a.w _ l.out c.put_line-w.new.0 (before_line s l.run l.n l.at r eq l.invariant.2 l.invariant.0 top) r.n r.at l.w c.put_line-w.result r.turn
+      go_on s a.out.now a.w _ l.out c.put_line-w.new.out (before_line s l.run l.n l.at r eq l.invariant.2 l.invariant.0 top) r.n r.at l.w c.put_line-w.result r.turn
           (omega arith) few fits (line_goes s l.run l.n l.at r eq l.invariant.2 l.invariant.0 top a.out.now a.w _ l.out l.w l.invariant.4) turn put c.if-k-eq0.false,
     )

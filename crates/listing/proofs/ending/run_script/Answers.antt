@@ -6,7 +6,7 @@ use Rattle.listing.proofs.ending.run_script.Goals as goal
 
 pub returns-then-script-le-MAX_SCRIPT_BYTES : goal.returns-then-script-le-MAX_SCRIPT_BYTES
 unfolding ran_of
-returns-then-script-le-MAX_SCRIPT_BYTES c = rw (le-leb _ _ c.if-script-le-MAX_SCRIPT_BYTES.true, c.end_of_lem.ensures, c.last_turn.ensures)
+returns-then-script-le-MAX_SCRIPT_BYTES c = rw (le-leb _ _ c.if-script-le-MAX_SCRIPT_BYTES.true, c.end_of.ensures, c.last_turn.ensures)
 
 pub returns-else-script-le-MAX_SCRIPT_BYTES : goal.returns-else-script-le-MAX_SCRIPT_BYTES
 unfolding ran_of

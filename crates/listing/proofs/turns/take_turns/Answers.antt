@@ -1,5 +1,5 @@
 -- `take_turns` meets its contract: each field's turn is the definition's, and the turns go as far as is asked for.
-use Rattle.std.proofs.Common.{◌≡◌, ℕ, ◌+◌, ◌-◌, ◌≤◌, length, sym, ap, ◌∙◌, subst, ⊎_elim, arith}
+use Rattle.std.proofs.Common.{◌≡◌, ℕ, ◌+◌, ◌-◌, ◌≤◌, length, sym, ap, ◌∙◌, subst, arith}
 use Rattle.script.proofs.Part.{rest}
 use Rattle.script_steps.specs.Steps.{step_of}
 use Rattle.script_steps.specs.declared.Run.{Run}
@@ -12,7 +12,7 @@ use Rattle.listing.specs.Turns.{told_of, turn_of}
 use Rattle.listing.specs.declared.lines.Line.TheVariants as L
 use Rattle.listing.proofs.Fields.{left, by-done, by-trigger, by-quiet, by-frame, by_no_frame, turn_as, turn_of_lem}
 use Rattle.listing.proofs.turns.take_turns.Goals as goal
-use Rattle.listing.proofs.turns.take_turns.Goals.{After-replied-said, Joined-field}
+use Rattle.listing.proofs.turns.take_turns.Goals.{After-replied-said, Joined-field, in-Rate, in-Configure, in-Source, in-Retire, in-Release, in-Trigger, in-Seek, in-Advance, in-Frame+in-Taken, in-Frame+in-Refused, in-NoteInput, in-Reset, in-Reserve, in-ReservedTrigger}
 
 -- what the field's call left is what the definition has
 stepped : (c : Joined-field) → left c.match-field.engine c.match-field.frame c.match-field.reply ≡ step_of (record { engine = c.loop-field.engine; frame = c.loop-field.frame }) c.in-Field.field
@@ -22,30 +22,32 @@ stepped c =
     let e = c.match-field.engine in
     let f = c.match-field.frame in
     let r = c.match-field.reply in
-    ⊎_elim (λ w. by-done run e f r w.3.result _ w.3.ensures w.6 w.7 (w.8 ∙ w.5.ensures) ∙ sym (ap (step_of run) w.1.given.1))
-    (⊎_elim (λ w. by-done run e f r w.3.result _ w.3.ensures w.6 w.7 (w.8 ∙ w.5.ensures) ∙ sym (ap (step_of run) w.1.given.1))
-    (⊎_elim (λ w. by-done run e f r w.3.result _ w.3.ensures w.6 w.7 (w.8 ∙ w.5.ensures) ∙ sym (ap (step_of run) w.1.given.1))
-    (⊎_elim (λ w. by-done run e f r w.3.result _ w.3.ensures w.6 w.7 (w.8 ∙ w.5.ensures) ∙ sym (ap (step_of run) w.1.given.1))
-    (⊎_elim (λ w. by-done run e f r w.3.result _ w.3.ensures w.6 w.7 (w.8 ∙ w.5.ensures) ∙ sym (ap (step_of run) w.1.given.1))
-    (⊎_elim (λ w. by-trigger run e f r w.3.result _ w.3.ensures w.6 w.7 (w.8 ∙ w.5.ensures) ∙ sym (ap (step_of run) w.1.given.1))
-    (⊎_elim (λ w. by-quiet run e f r w.3.result _ w.3.ensures w.4 w.5 w.6 ∙ sym (ap (step_of run) w.1.given.1))
-    (⊎_elim (λ w. by-done run e f r w.3.result _ w.3.ensures w.6 w.7 (w.8 ∙ w.5.ensures) ∙ sym (ap (step_of run) w.1.given.1))
-    (⊎_elim (λ w. by-frame run e f r w.3.result _ w.3.ensures w.9 w.8.result w.6.given.1 w.10 w.8.ensures w.11 ∙ sym (ap (step_of run) w.1.given.1))
-    (⊎_elim (λ w. by_no_frame run e f r w.3.result _ w.3.ensures w.8 _ w.6.given.1 w.9 w.10 ∙ sym (ap (step_of run) w.1.given.1))
-    (⊎_elim (λ w. by-quiet run e f r w.3.result _ w.3.ensures w.4 w.5 w.6 ∙ sym (ap (step_of run) w.1.given.1))
-    (⊎_elim (λ w. by-quiet run e f r w.2.result _ w.2.ensures w.3 w.4 w.5 ∙ sym (ap (step_of run) w.1.given.1))
-    (⊎_elim (λ w. by-quiet run e f r w.2.result.engine _ (ap (λ (x : Reserved). x.engine) w.2.ensures) w.4 w.5 w.6 ∙ sym (ap (step_of run) w.1.given.1))
-    (λ w. by-trigger run e f r w.3.result _ w.3.ensures w.6 w.7 (w.8 ∙ w.5.ensures) ∙ sym (ap (step_of run) w.1.given.1))))))))))))))
-    c.match-field.branch
+    elim c.match-field.branch [
+      in-Rate w ↦ by-done run e f r w.new_engine-done.result _ w.new_engine-done.ensures w.engine-is w.frame-is (w.reply-is ∙ w.answered-reply.ensures) ∙ sym (ap (step_of run) w.in-Rate.is)
+    | in-Configure w ↦ by-done run e f r w.configure-done.result _ w.configure-done.ensures w.engine-is w.frame-is (w.reply-is ∙ w.answered-reply-in-Configure.ensures) ∙ sym (ap (step_of run) w.in-Configure.is)
+    | in-Source w ↦ by-done run e f r w.set_source-done.result _ w.set_source-done.ensures w.engine-is w.frame-is (w.reply-is ∙ w.answered-reply-in-Source.ensures) ∙ sym (ap (step_of run) w.in-Source.is)
+    | in-Retire w ↦ by-done run e f r w.retire_source-done.result _ w.retire_source-done.ensures w.engine-is w.frame-is (w.reply-is ∙ w.answered-reply-in-Retire.ensures) ∙ sym (ap (step_of run) w.in-Retire.is)
+    | in-Release w ↦ by-done run e f r w.release_source-done.result _ w.release_source-done.ensures w.engine-is w.frame-is (w.reply-is ∙ w.answered-reply-in-Release.ensures) ∙ sym (ap (step_of run) w.in-Release.is)
+    | in-Trigger w ↦ by-trigger run e f r w.trigger-triggered.result _ w.trigger-triggered.ensures w.engine-is w.frame-is (w.reply-is ∙ w.fired-reply.ensures) ∙ sym (ap (step_of run) w.in-Trigger.is)
+    | in-Seek w ↦ by-quiet run e f r w.seek-engine.result _ w.seek-engine.ensures w.engine-is w.frame-is w.reply-is ∙ sym (ap (step_of run) w.in-Seek.is)
+    | in-Advance w ↦ by-done run e f r w.advance-done.result _ w.advance-done.ensures w.engine-is w.frame-is (w.reply-is ∙ w.answered-reply-in-Advance.ensures) ∙ sym (ap (step_of run) w.in-Advance.is)
+    | in-Frame+in-Taken w ↦ by-frame run e f r w.take_frame-framed.result _ w.take_frame-framed.ensures w.engine-is w.values_of-values.result w.in-Taken.is w.frame-is w.values_of-values.ensures w.reply-is ∙ sym (ap (step_of run) w.in-Frame.is)
+    | in-Frame+in-Refused w ↦ by_no_frame run e f r w.take_frame-framed.result _ w.take_frame-framed.ensures w.engine-is _ w.in-Refused.is w.frame-is w.reply-is ∙ sym (ap (step_of run) w.in-Frame.is)
+    | in-NoteInput w ↦ by-quiet run e f r w.set_note_input_present-engine.result _ w.set_note_input_present-engine.ensures w.engine-is w.frame-is w.reply-is ∙ sym (ap (step_of run) w.in-NoteInput.is)
+    | in-Reset w ↦ by-quiet run e f r w.reset-engine.result _ w.reset-engine.ensures w.engine-is w.frame-is w.reply-is ∙ sym (ap (step_of run) w.in-Reset.is)
+    | in-Reserve w ↦ by-quiet run e f r w.reserve_trigger-reserved.result.engine _ (ap (λ (x : Reserved). x.engine) w.reserve_trigger-reserved.ensures) w.engine-is w.frame-is w.reply-is ∙ sym (ap (step_of run) w.in-Reserve.is)
+    | in-ReservedTrigger w ↦ by-trigger run e f r w.trigger_reserved-triggered.result _ w.trigger_reserved-triggered.ensures w.engine-is w.frame-is (w.reply-is ∙ w.fired-reply-in-ReservedTrigger.ensures) ∙ sym (ap (step_of run) w.in-ReservedTrigger.is)
+    ]
 
 -- the turn of the field
 turned : (c : After-replied-said)
+    → left c.match-field.engine c.match-field.frame c.match-field.reply ≡ step_of (record { engine = c.loop-field.engine; frame = c.loop-field.frame }) c.in-Field.field
     → told_of (record { engine = c.match-field.engine; frame = c.match-field.frame }) c.replied-said.result.line c.replied-said.result.taken
     ≡ turn_of (record { engine = c.loop-field.engine; frame = c.loop-field.frame }) c.loop-field.n c.loop-field.at c.args.script.now
-turned c =
+turned c stepped =
     let at = c.loop-field.at in
     let s = c.args.script.now in
-    turn_of_lem _ _ at s _ (rw (rest at s) at c.read_field-read.ensures) _ _ _ _ _ _ c.in-Field.is (stepped (goal.at.X c).Joined-field) c.replied-said.ensures
+    turn_of_lem _ _ at s _ (rw (rest at s) at c.read_field-read.ensures) _ _ _ _ _ _ c.in-Field.is stepped c.replied-said.ensures
 
 pub loop-field-init : goal.loop-field-init
 loop-field-init c = let a = c.args in going_start a.until a.script.now a.run a.n a.at c.requires
@@ -64,7 +66,7 @@ overflow_add-at c =
     let a = c.args in
     let l = c.loop-field in
     let run : Run = record { engine = l.engine; frame = l.frame } in
-    let eq = turned (goal.at.overflow_add-at c).After-replied-said in
+    let eq = turned (goal.at.overflow_add-at c).After-replied-said (stepped (goal.at.overflow_add-at c).Joined-field) in
     let le : c.replied-said.result.taken ≤ length a.script.now - l.at = taken-left run l.n l.at a.script.now _ eq in
     let more = further a.until a.script.now a.run a.n a.at run l.n l.at l.invariant _ eq (sym c.goes_on.ensures ∙ c.if-goes_on.true) in
     omega (arith, le, c.well_formed.1.1.1.1.0)
@@ -74,7 +76,7 @@ loop-field-smaller c =
     let a = c.args in
     let l = c.loop-field in
     let run : Run = record { engine = l.engine; frame = l.frame } in
-    let eq = turned (goal.at.loop-field-smaller c).After-replied-said in
+    let eq = turned (goal.at.loop-field-smaller c).After-replied-said (stepped (goal.at.loop-field-smaller c).Joined-field) in
     let le : c.replied-said.result.taken ≤ length a.script.now - l.at = taken-left run l.n l.at a.script.now _ eq in
     let more = further a.until a.script.now a.run a.n a.at run l.n l.at l.invariant _ eq (sym c.goes_on.ensures ∙ c.if-goes_on.true) in
     omega arith
@@ -84,7 +86,7 @@ loop-field-preserved c =
     let a = c.args in
     let l = c.loop-field in
     let run : Run = record { engine = l.engine; frame = l.frame } in
-    let eq = turned (goal.at.loop-field-preserved c).After-replied-said in
+    let eq = turned (goal.at.loop-field-preserved c).After-replied-said (stepped (goal.at.loop-field-preserved c).Joined-field) in
     subst (λ (m : ℕ). Going a.until a.script.now a.run a.n a.at (record { engine = c.match-field.engine; frame = c.match-field.frame }) m (l.at + c.replied-said.result.taken)) (sym c.wrapping_add_u64-n.ensures.value) (going_on a.until a.script.now a.run a.n a.at run l.n l.at l.invariant _ eq (sym c.goes_on.ensures ∙ c.if-goes_on.true))
 
 pub returns-else-goes_on : goal.returns-else-goes_on
@@ -92,7 +94,7 @@ returns-else-goes_on c =
     let a = c.args in
     let l = c.loop-field in
     let run : Run = record { engine = l.engine; frame = l.frame } in
-    let eq = turned (goal.at.returns-else-goes_on c).After-replied-said in
+    let eq = turned (goal.at.returns-else-goes_on c).After-replied-said (stepped (goal.at.returns-else-goes_on c).Joined-field) in
     c.reach.ensures ∙ ap (λ (t : Turn). reached_at t l.n l.at) c.told.ensures ∙ going_ends a.until a.script.now a.run a.n a.at run l.n l.at l.invariant _ eq (sym c.goes_on.ensures ∙ c.if-goes_on.false)
 
 pub returns-in-Bad : goal.returns-in-Bad
