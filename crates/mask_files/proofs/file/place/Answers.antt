@@ -1,0 +1,48 @@
+-- `place` meets its contract: how the records end, and then the room.
+use Rattle.std.proofs.Common.{◌≡◌, length, ◌∙◌, arith, rules}
+use Rattle.refusals.specs.declared.Answer.TheVariants as A
+use Rattle.mask_files.proofs.Passes.{whole_of}
+use Rattle.mask_files.proofs.Placing.{ended_so, refused_end, no_room, room, written}
+use Rattle.mask_files.proofs.file.place.Goals as goal
+
+pub returns-then-out-at : goal.returns-then-out-at
+returns-then-out-at c =
+    let a = c.args in
+    let pre = c.requires in
+    let m = c.measure-measured in
+    let whole = whole_of a.depth_db a.logs.now a.script.now in
+    no_room whole m.result m.ensures a.out.now a.at c.in-Taken.is (omega (arith, c.if-out-at.true))
+
+pub returns-then-out-at-2 : goal.returns-then-out-at-2
+returns-then-out-at-2 c =
+    let a = c.args in
+    let pre = c.requires in
+    let m = c.measure-measured in
+    let whole = whole_of a.depth_db a.logs.now a.script.now in
+    no_room whole m.result m.ensures a.out.now a.at c.in-Taken.is (omega (arith, c.if-out-at-2.true, c.if-out-at.false))
+
+pub write_records-after-requires : goal.write_records-after-requires
+write_records-after-requires c =
+    let a = c.args in
+    let pre = c.requires in
+    let m = c.measure-measured in
+    let whole = whole_of a.depth_db a.logs.now a.script.now in
+    let fits = room whole m.result m.ensures a.out.now a.at (omega (arith, c.if-out-at-2.false, c.if-out-at.false)) in
+    let places : length m.new.scratch ≡ length a.scratch.now = search rules in
+    record { script_len_bound = pre.script_len_bound; in_bounds = (pre.in_bounds.0, pre.in_bounds.1, pre.in_bounds.2, places ∙ pre.in_bounds.3); script_value = (ended_so whole m.result m.ensures a.out.now a.at A.Taken c.in-Taken.is, fits) }
+
+pub returns-in-Refused : goal.returns-in-Refused
+returns-in-Refused c =
+    let a = c.args in
+    let pre = c.requires in
+    let m = c.measure-measured in
+    let whole = whole_of a.depth_db a.logs.now a.script.now in
+    refused_end whole m.result m.ensures a.out.now a.at _ c.in-Refused.is
+
+pub returns-else-out-at-2 : goal.returns-else-out-at-2
+returns-else-out-at-2 c =
+    let a = c.args in
+    let pre = c.requires in
+    let m = c.measure-measured in
+    let whole = whole_of a.depth_db a.logs.now a.script.now in
+    written whole m.result m.ensures a.out.now a.at c.in-Taken.is (omega (arith, c.if-out-at-2.false, c.if-out-at.false)) _ _ c.write_records-after.ensures
