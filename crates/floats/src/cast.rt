@@ -60,8 +60,8 @@ pub fn f32_to_f64(x: f32) -> f64
 
 // n / u to the nearest whole number, a tie to the even one.
 fn nearest_part(n: u64, u: u64) -> u64
-    requires fact_1 { 2 ≤ u }
-    requires fact_2 { u ≤ 2 ^ 62 }
+    requires two_or_more { 2 ≤ u }
+    requires divisor_fits { u ≤ 2 ^ 62 }
     ensures { result ≡ closest n u }
 {
     let q = n / u;
@@ -78,8 +78,8 @@ fn nearest_part(n: u64, u: u64) -> u64
 // The f32 that drops k digits and keeps q. A carry runs from the digits into the exponent's field,
 // and what passes the largest float is the infinity.
 fn pack32(k: u64, q: u64) -> f32
-    requires fact_1 { k < 2 ^ 32 }
-    requires fact_2 { q ≤ 2 ^ 63 }
+    requires exponent_fits { k < 2 ^ 32 }
+    requires digits_fit { q ≤ 2 ^ 63 }
     ensures { result ≡ from_bits binary32 (min (k * 8388608 + q) 2139095040) }
 {
     let p = k * 8388608 + q;

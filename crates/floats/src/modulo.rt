@@ -27,8 +27,8 @@ fn moved(a: u64, s: u64) -> u64
 
 // a * 2^d modulo n, eleven digits a turn: below 2^53 they are as many as a word has left.
 fn scaled_rem(a: u64, d: u64, n: u64) -> u64
-    requires fact_1 { 0 < n }
-    requires fact_2 { n ≤ 2 ^ 53 }
+    requires not_zero { 0 < n }
+    requires in_53_digits { n ≤ 2 ^ 53 }
     ensures { result ≡ a * 2 ^ d % n }
 {
     let mut r = a % n;
@@ -45,8 +45,8 @@ fn scaled_rem(a: u64, d: u64, n: u64) -> u64
 
 // The f64 that is r * 2^k smallest ones: r is moved up to 53 digits as far as k allows.
 fn assembled(r: u64, k: u64) -> f64
-    requires fact_1 { r < 2 ^ 53 }
-    requires fact_2 { k < 2046 }
+    requires in_53_digits { r < 2 ^ 53 }
+    requires exponent_fits { k < 2046 }
     ensures { result ≡ round binary64 false (r * 2 ^ k) (2 ^ 1074) }
 {
     if r == 0 {

@@ -24,8 +24,8 @@ pub fn digit(b: u8) -> u64
 }
 
 fn number(line: &[u8; 84], at: usize, n: usize) -> u64
-    requires fact_1 { at + n ≤ 84 }
-    requires fact_2 { n ≤ 16 }
+    requires within_line { at + n ≤ 84 }
+    requires fits_word { n ≤ 16 }
     ensures { result ≡ number_at line.now at n }
 {
     let mut w: u64 = 0;

@@ -19,10 +19,10 @@ pub loop-i-init : goal.loop-i-init
 loop-i-init c = (omega arith, times_none _ _, pow_pos 0)
 
 pub overflow_mul-w : goal.overflow_mul-w
-overflow_mul-w c = let l = c.loop-i.invariant.2 in omega (arith, grown c.loop-i.w 0 c.loop-i.i l (lit< tt), room c.loop-i.i _ c.loop-i-test.true c.requires.fact_2)
+overflow_mul-w c = let l = c.loop-i.invariant.2 in omega (arith, grown c.loop-i.w 0 c.loop-i.i l (lit< tt), room c.loop-i.i _ c.loop-i-test.true c.requires.fits_word)
 
 pub overflow_add-w : goal.overflow_add-w
-overflow_add-w c = let l = c.loop-i in omega (arith, grown l.w c.digit.result l.i l.invariant.2 c.digit.ensures.1, room l.i _ c.loop-i-test.true c.requires.fact_2)
+overflow_add-w c = let l = c.loop-i in omega (arith, grown l.w c.digit.result l.i l.invariant.2 c.digit.ensures.1, room l.i _ c.loop-i-test.true c.requires.fits_word)
 
 pub loop-i-preserved : goal.loop-i-preserved
 loop-i-preserved c =

@@ -6,19 +6,19 @@ use Rattle.floats.proofs.Narrow.{closest_le, shifted, unit_in, narrow_tiny, narr
 use Rattle.floats.proofs.cast.narrowed.Goals as goal
 
 pub nearest_part-requires : goal.nearest_part-requires
-nearest_part-requires c = let both = unit_in (926 - c.args.b / 4503599627370496) (omega arith) (omega arith) in record { fact_1 = both.0; fact_2 = both.1 }
+nearest_part-requires c = let both = unit_in (926 - c.args.b / 4503599627370496) (omega arith) (omega arith) in record { two_or_more = both.0; divisor_fits = both.1 }
 
 pub pack32-requires : goal.pack32-requires
 pack32-requires c =
     let b = c.args.b in
     let q = c.nearest_part.ensures in
-    record { fact_1 = lit< tt; fact_2 = omega (arith, closest_le (b % 4503599627370496 + 4503599627370496) (1 * 2 ^ (926 - b / 4503599627370496) % 2 ^ 64)) }
+    record { exponent_fits = lit< tt; digits_fit = omega (arith, closest_le (b % 4503599627370496 + 4503599627370496) (1 * 2 ^ (926 - b / 4503599627370496) % 2 ^ 64)) }
 
 pub pack32-requires-else-x-lt897 : goal.pack32-requires-else-x-lt897
 pack32-requires-else-x-lt897 c =
     let b = c.args.b in
     let q = c.nearest_part-else-x-lt897.ensures in
-    record { fact_1 = omega arith; fact_2 = omega (arith, closest_le (b % 4503599627370496 + 4503599627370496) 536870912) }
+    record { exponent_fits = omega arith; digits_fit = omega (arith, closest_le (b % 4503599627370496 + 4503599627370496) 536870912) }
 
 pub returns-then-x-lt870 : goal.returns-then-x-lt870
 returns-then-x-lt870 c = narrow_tiny c.args.b c.requires c.if-x-lt870.true

@@ -11,13 +11,13 @@ half : (n u : ℕ) → 2 ≤ u → n / u * 2 ≤ n
 half n u h = le_trans (mul-le-mul_left (n / u) h) (div-mul-le_self n u)
 
 pub overflow_mul-r : goal.overflow_mul-r
-overflow_mul-r c = omega (arith, mod-lt c.args.n (two_pos c.args.u c.requires.fact_1))
+overflow_mul-r c = omega (arith, mod-lt c.args.n (two_pos c.args.u c.requires.two_or_more))
 
 pub overflow_add-result : goal.overflow_add-result
-overflow_add-result c = omega (arith, half c.args.n c.args.u c.requires.fact_1)
+overflow_add-result c = omega (arith, half c.args.n c.args.u c.requires.two_or_more)
 
 pub overflow_add-result-else-r-u-2 : goal.overflow_add-result-else-r-u-2
-overflow_add-result-else-r-u-2 c = omega (arith, half c.args.n c.args.u c.requires.fact_1)
+overflow_add-result-else-r-u-2 c = omega (arith, half c.args.n c.args.u c.requires.two_or_more)
 
 pub returns-then-r-u : goal.returns-then-r-u
 returns-then-r-u c = closest_below c.args.n c.args.u c.if-r-u.true

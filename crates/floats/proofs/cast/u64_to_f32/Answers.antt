@@ -35,14 +35,14 @@ pub overflow_sub-z-else-n-lt4294967296 : goal.overflow_sub-z-else-n-lt4294967296
 overflow_sub-z-else-n-lt4294967296 c = omega (arith, few c.args.n c.if-n-lt4294967296.false c.ranges.n.fits)
 
 pub nearest_part-requires : goal.nearest_part-requires
-nearest_part-requires c = let f = few c.args.n c.if-n-lt4294967296.false c.ranges.n.fits in let both = unit_in (40 - count_leading_zeros 64 c.args.n) (omega arith) (omega arith) in record { fact_1 = both.0; fact_2 = both.1 }
+nearest_part-requires c = let f = few c.args.n c.if-n-lt4294967296.false c.ranges.n.fits in let both = unit_in (40 - count_leading_zeros 64 c.args.n) (omega arith) (omega arith) in record { two_or_more = both.0; divisor_fits = both.1 }
 
 pub pack32-requires : goal.pack32-requires
 pack32-requires c =
     let n = c.args.n in
     let f = few n c.if-n-lt4294967296.false c.ranges.n.fits in
     let u = unit_in (40 - count_leading_zeros 64 n) (omega arith) (omega arith) in
-    record { fact_1 = omega arith; fact_2 = omega (arith, c.nearest_part.ensures, closest_half n (1 * 2 ^ (40 - count_leading_zeros 64 n) % 2 ^ 64) u.0) }
+    record { exponent_fits = omega arith; digits_fit = omega (arith, c.nearest_part.ensures, closest_half n (1 * 2 ^ (40 - count_leading_zeros 64 n) % 2 ^ 64) u.0) }
 
 pub returns-else-n-lt4294967296 : goal.returns-else-n-lt4294967296
 unfolding of_int

@@ -33,7 +33,7 @@ returns-then-b-eq0 c =
     by_zero c.args.x c.args.m (passes _ c.well_formed.0.1) (passes _ c.well_formed.1.0.1) (omega (arith, c.bits64-b.ensures, c.if-b-eq0.true))
 
 pub assembled-v-requires : goal.assembled-v-requires
-assembled-v-requires c = record { fact_1 = left_over _ _ _ c.scaled_rem-r.ensures (omega arith) (omega arith); fact_2 = omega arith }
+assembled-v-requires c = record { in_53_digits = left_over _ _ _ c.scaled_rem-r.ensures (omega arith) (omega arith); exponent_fits = omega arith }
 
 pub returns : goal.returns
 returns c =

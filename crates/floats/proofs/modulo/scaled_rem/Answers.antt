@@ -5,7 +5,7 @@ use Rattle.floats.proofs.Residues.{mod_times, one-turn}
 use Rattle.floats.proofs.modulo.scaled_rem.Goals as goal
 
 pub loop-left-init : goal.loop-left-init
-loop-left-init c = (mod-lt c.args.a c.requires.fact_1, mod_times c.args.a c.args.n (2 ^ c.args.d))
+loop-left-init c = (mod-lt c.args.a c.requires.not_zero, mod_times c.args.a c.args.n (2 ^ c.args.d))
 
 pub returns-then-r-eq0 : goal.returns-then-r-eq0
 returns-then-r-eq0 c =
@@ -17,7 +17,7 @@ pub loop-left-preserved : goal.loop-left-preserved
 loop-left-preserved c =
     let l = c.loop-left in
     let n = c.args.n in
-    (mod-lt (l.r * 2048) c.requires.fact_1, one-turn l.r n 11 l.left (omega arith) ∙ l.invariant.1)
+    (mod-lt (l.r * 2048) c.requires.not_zero, one-turn l.r n 11 l.left (omega arith) ∙ l.invariant.1)
 
 pub moved-requires : goal.moved-requires
 moved-requires c =

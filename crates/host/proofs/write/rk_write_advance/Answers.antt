@@ -1,0 +1,7 @@
+-- `rk_write_advance` meets its contract: its event.
+use Rattle.script.specs.declared.fields.Field.TheVariants as F
+use Rattle.host.proofs.Told.{told-by}
+use Rattle.host.proofs.write.rk_write_advance.Goals as goal
+
+pub returns : goal.returns
+returns c = let a = c.args in told-by a.out.now a.at.now (F.Advance a.samples) c.write_advance-written.ensures c.told.ensures

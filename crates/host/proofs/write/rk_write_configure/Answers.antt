@@ -1,0 +1,11 @@
+-- `rk_write_configure` meets its contract: the settings of these numbers.
+use Rattle.script.specs.declared.fields.Field.TheVariants as F
+use Rattle.host.specs.Write.{config_from}
+use Rattle.host.proofs.Told.{told-by}
+use Rattle.host.proofs.write.rk_write_configure.Goals as goal
+
+pub returns : goal.returns
+returns c = 
+    let a = c.args in
+    let config = config_from a.enabled a.shape a.direction a.rate-hz a.size-octaves a.phase a.scheduled a.sync a.hop-samples a.partials a.partial-rolloff-db a.attack-ms a.release-ms in
+    told-by a.out.now a.at.now (F.Configure config) (rw (c.direction_from.ensures, c.shape_from.ensures) at c.write_configure-written.ensures) c.told.ensures

@@ -1,0 +1,7 @@
+-- `rk_write_note_input` meets its contract: its event.
+use Rattle.script.specs.declared.fields.Field.TheVariants as F
+use Rattle.host.proofs.Told.{told-by}
+use Rattle.host.proofs.write.rk_write_note_input.Goals as goal
+
+pub returns : goal.returns
+returns c = let a = c.args in told-by a.out.now a.at.now (F.NoteInput a.present) c.write_note_input-written.ensures c.told.ensures

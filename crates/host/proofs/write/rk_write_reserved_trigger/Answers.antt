@@ -1,0 +1,7 @@
+-- `rk_write_reserved_trigger` meets its contract: its event.
+use Rattle.script.specs.declared.fields.Field.TheVariants as F
+use Rattle.host.proofs.Told.{told-by}
+use Rattle.host.proofs.write.rk_write_reserved_trigger.Goals as goal
+
+pub returns : goal.returns
+returns c = let a = c.args in told-by a.out.now a.at.now (F.ReservedTrigger a.slot a.index) c.write_reserved_trigger-written.ensures c.told.ensures

@@ -1,0 +1,7 @@
+-- `rk_write_retire` meets its contract: its event.
+use Rattle.script.specs.declared.fields.Field.TheVariants as F
+use Rattle.host.proofs.Told.{told-by}
+use Rattle.host.proofs.write.rk_write_retire.Goals as goal
+
+pub returns : goal.returns
+returns c = let a = c.args in told-by a.out.now a.at.now (F.Retire a.slot) c.write_retire-written.ensures c.told.ensures

@@ -1,0 +1,27 @@
+-- `put_sources` meets its contract: piece by piece.
+use Prim.Native.Nat.{◌-◌}
+use mathlib.Core.Path.{ap, ◌∙◌}
+use Rattle.sources.specs.Sources.{no_source}
+use Rattle.sequences.specs.Default.{get_d_any}
+use Rattle.oracle_replay.specs.Numbers.{source_words}
+use Rattle.oracle_replay.specs.State.{words_bytes, sources_bytes}
+use Rattle.text.proofs.Joined.{none_yet, one_more, all_there}
+use borrow.Author.Rules.{rules}
+use Rattle.oracle_replay.proofs.written.put_sources.Goals as goal
+
+pub loop-i-init : goal.loop-i-init
+loop-i-init c = none_yet _ _ _ _
+
+pub loop-i-preserved : goal.loop-i-preserved
+loop-i-preserved c = 
+    let l = c.loop-i in
+    let a = c.args in
+    let here = get_d_any a.t3 l.i _ no_source (search rules) in
+    one_more l.invariant (search rules) (ap words_bytes (c.source-words.ensures ∙ ap source_words here)) c.put_words-at.ensures
+
+pub shape_of-out : goal.shape_of-out
+shape_of-out c = c.loop-i.invariant.same
+
+pub returns : goal.returns
+unfolding sources_bytes
+returns c = all_there c.loop-i.invariant (search rules)

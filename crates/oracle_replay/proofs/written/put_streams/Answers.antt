@@ -1,0 +1,28 @@
+-- `put_streams` meets its contract: piece by piece.
+use Prim.Native.Nat.{◌-◌}
+use mathlib.Core.Path.{ap, ◌∙◌}
+use mathlib.Core.Bool.{false}
+use Rattle.timing.specs.Streams.{new_of}
+use Rattle.sequences.specs.Default.{get_d_any}
+use Rattle.oracle_replay.specs.Numbers.{stream_words}
+use Rattle.oracle_replay.specs.State.{words_bytes, streams_bytes}
+use Rattle.text.proofs.Joined.{none_yet, one_more, all_there}
+use borrow.Author.Rules.{rules}
+use Rattle.oracle_replay.proofs.written.put_streams.Goals as goal
+
+pub loop-i-init : goal.loop-i-init
+loop-i-init c = none_yet _ _ _ _
+
+pub loop-i-preserved : goal.loop-i-preserved
+loop-i-preserved c = 
+    let l = c.loop-i in
+    let a = c.args in
+    let here = get_d_any a.t3 l.i _ (new_of 0 false) (search rules) in
+    one_more l.invariant (search rules) (ap words_bytes (c.stream-words.ensures ∙ ap stream_words here)) c.put_words-at.ensures
+
+pub shape_of-out : goal.shape_of-out
+shape_of-out c = c.loop-i.invariant.same
+
+pub returns : goal.returns
+unfolding streams_bytes
+returns c = all_there c.loop-i.invariant (search rules)
