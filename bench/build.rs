@@ -1,18 +1,17 @@
-//! Links the proved functions: `bench/run` puts the archives into the folder that it names here. Where
-//! the original Rust is at hand, its `particles.rs` is made a module, with no change but to its first lines
-//! and the test modules at its end.
+//! Links the proved functions, whose archives `bench/run` makes. Where the original Rust is at hand, its
+//! `particles.rs` is made a module, with no change but to its first lines and the test modules at its end.
 use std::path::Path;
 use std::{env, fs};
 
 const PARTICLES: &str = "plugins/weft/crates/spectral-dsp/src/particles.rs";
 
 fn main() {
-    println!("cargo:rerun-if-env-changed=RAKNADUV_ARCHIVE");
-    let folder = env::var("RAKNADUV_ARCHIVE").expect("bench/run sets RAKNADUV_ARCHIVE");
-    println!("cargo:rustc-link-search=native={folder}");
-    for archive in ["host", "oracle_probe"] {
-        println!("cargo:rerun-if-changed={folder}/lib{archive}.a");
-        println!("cargo:rustc-link-lib=static={archive}");
+    let here = env::var("CARGO_MANIFEST_DIR").unwrap();
+    for name in ["host", "oracle_probe"] {
+        let folder = format!("{here}/../crates/{name}/out");
+        println!("cargo:rerun-if-changed={folder}/lib{name}.a");
+        println!("cargo:rustc-link-search=native={folder}");
+        println!("cargo:rustc-link-lib=static={name}");
     }
     original();
 }
