@@ -1,4 +1,4 @@
-/* Raknaduv for hosts in C: link libhost.a, which `rt staticlib host` writes for x86-64.
+/* Raknaduv for hosts in C: link libhost.a, which `rt lib` makes in crates/host/out for x86-64.
  * Each function is total, has no state, and gives the same bits on every machine. */
 #ifndef RAKNADUV_H
 #define RAKNADUV_H

@@ -2,7 +2,7 @@
 //! 1234567, each beside the state that its output function is applied to; two worked examples; and a
 //! sample of the original's own answers (tests/answers/calls.txt, which the oracle prints).
 //!
-//!     rustc -O tests/vectors/draws.rs -o target/draws && target/draws > crates/draws_vectors/stdin
+//!     rustc -O tests/vectors/draws.rs -o /tmp/draws && /tmp/draws > crates/draws_vectors/stdin
 
 #[path = "shared/line.rs"]
 mod line;

@@ -2,7 +2,7 @@
 //! points and random arguments, with the answer of the plain implementation of docs/FUNCTIONS.md in
 //! bench/src/reference.rs, which shares nothing with the proved code.
 //!
-//!     rustc -O tests/vectors/elementary.rs -o target/elementary && target/elementary > crates/elementary_vectors/stdin
+//!     rustc -O tests/vectors/elementary.rs -o /tmp/elementary && /tmp/elementary > crates/elementary_vectors/stdin
 #[path = "shared/line.rs"]
 mod line;
 #[path = "../../bench/src/reference.rs"]

@@ -1,7 +1,7 @@
 //! Prints the stored cases of `floats_vectors`: each operation on its edges, with the answer of
 //! Rust's own operation.
 //!
-//!     rustc -O tests/vectors/floats.rs -o target/floats && target/floats > crates/floats_vectors/stdin
+//!     rustc -O tests/vectors/floats.rs -o /tmp/floats && /tmp/floats > crates/floats_vectors/stdin
 
 #[path = "shared/line.rs"]
 mod line;
