@@ -5,7 +5,7 @@ use Rattle.oracle_replay.proofs.put_field.Goals as goal
 
 pub returns : goal.returns
 unfolding left_by
-returns c = 
+returns c =
     let state = one c.put_state-at.ensures in
     let frame = one c.put_frame-at.ensures in
     let all = next state (next frame (one c.put.ensures)) in

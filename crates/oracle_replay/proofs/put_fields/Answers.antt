@@ -10,7 +10,7 @@ use Rattle.oracle_replay.proofs.Left.{stop, go_on}
 use Rattle.oracle_replay.proofs.put_fields.Goals as goal
 
 pub loop-run-init : goal.loop-run-init
-loop-run-init c = 
+loop-run-init c =
     let pre = c.requires in
     (pre.0, pre.1, pre.2, refl, λ p r h. h)
 
@@ -18,7 +18,7 @@ pub shape_of-out-then-k-eq0 : goal.shape_of-out-then-k-eq0
 shape_of-out-then-k-eq0 c = c.loop-run.invariant.3
 
 pub returns-then-k-eq0 : goal.returns-then-k-eq0
-returns-then-k-eq0 c = 
+returns-then-k-eq0 c =
     let l = c.loop-run in
     let a = c.args in
     let t = c.one_turn-turn.result in
@@ -37,7 +37,7 @@ pub slice_bounds-answer-end : goal.slice_bounds-answer-end
 slice_bounds-answer-end c = omega arith
 
 pub overflow_add-at : goal.overflow_add-at
-overflow_add-at c = 
+overflow_add-at c =
     let l = c.loop-run in
     let a = c.args in
     let t = c.one_turn-turn.result in
@@ -47,12 +47,12 @@ overflow_add-at c =
     omega (arith, le, c.well_formed.1.1.1.1.1.0)
 
 pub overflow_add-n : goal.overflow_add-n
-overflow_add-n c = 
+overflow_add-n c =
     let l = c.loop-run in
     omega (arith, l.invariant.0, l.invariant.2, c.well_formed.1.1.1.1.1.0)
 
 pub loop-run-smaller : goal.loop-run-smaller
-loop-run-smaller c = 
+loop-run-smaller c =
     let l = c.loop-run in
     let a = c.args in
     let t = c.one_turn-turn.result in
@@ -62,7 +62,7 @@ loop-run-smaller c =
     omega (arith, le, c.if-k-eq0.false)
 
 pub loop-run-preserved : goal.loop-run-preserved
-loop-run-preserved c = 
+loop-run-preserved c =
     let l = c.loop-run in
     let a = c.args in
     let t = c.one_turn-turn.result in

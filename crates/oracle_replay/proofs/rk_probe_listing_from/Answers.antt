@@ -4,6 +4,6 @@ use Rattle.oracle_replay.specs.Replay.{count_of}
 use Rattle.oracle_replay.proofs.rk_probe_listing_from.Goals as goal
 
 pub returns : goal.returns
-returns c = 
+returns c =
     let e = c.list_script_from.ensures in
     (c.count.ensures ∙ ap count_of e.0, e.1)

@@ -6,7 +6,7 @@ use Rattle.oracle_replay.proofs.Whole.{words_are}
 use Rattle.oracle_replay.proofs.written.put_engine.Goals as goal
 
 pub shape_of-out : goal.shape_of-out
-shape_of-out c = 
+shape_of-out c =
     c.put_particles.ensures.same
     ∙ c.put_sources-a.ensures.same
     ∙ c.put_streams-a.ensures.same
@@ -17,7 +17,7 @@ shape_of-out c =
 
 pub returns : goal.returns
 unfolding state_bytes
-returns c = 
+returns c =
     let counts = words_are c.counts-counted.ensures c.put_words-a.ensures in
     let chosen = words_are c.config-chosen.ensures c.put_words-a-2.ensures in
     let rates = words_are c.prepared-rates.ensures c.put_words-a-3.ensures in

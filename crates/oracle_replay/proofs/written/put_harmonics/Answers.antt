@@ -10,7 +10,7 @@ pub loop-i-init : goal.loop-i-init
 loop-i-init c = none_yet _ _ _ _
 
 pub loop-i-preserved : goal.loop-i-preserved
-loop-i-preserved c = 
+loop-i-preserved c =
     one_more c.loop-i.invariant (search rules) (ap words_bytes c.harmonic-words.ensures) c.put_words-at.ensures
 
 pub shape_of-out : goal.shape_of-out

@@ -14,10 +14,10 @@ pub loop-i-init : goal.loop-i-init
 loop-i-init c = none_yet _ _ _ _
 
 pub loop-i-preserved : goal.loop-i-preserved
-loop-i-preserved c = 
+loop-i-preserved c =
     let l = c.loop-i in
     let a = c.args in
-    let here = get_d_any a.t3 l.i _ (new_of 0 false) (search rules) in
+    let here = get_d_any a.streams l.i _ (new_of 0 false) (search rules) in
     one_more l.invariant (search rules) (ap words_bytes (c.stream-words.ensures ∙ ap stream_words here)) c.put_words-at.ensures
 
 pub shape_of-out : goal.shape_of-out

@@ -10,7 +10,7 @@ pub loop-i-init : goal.loop-i-init
 loop-i-init c = (refl, none_yet _ _ _ _)
 
 pub loop-i-preserved : goal.loop-i-preserved
-loop-i-preserved c = 
+loop-i-preserved c =
     let l = c.loop-i in
     (l.invariant.0, one_more l.invariant.1 (omega (arith, c.loop-i-test.true, l.invariant.0)) refl c.put_word-at.ensures)
 
