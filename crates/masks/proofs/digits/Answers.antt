@@ -17,7 +17,7 @@ pub returns-then-c-gt57 : goal.returns-then-c-gt57
 returns-then-c-gt57 c = let l = c.loop-i in above c.args.text.now l.n l.i (omega (arith, c.loop-i-test.true, l.invariant.1)) c.if-c-lt48.false c.if-c-gt57.true ∙ l.invariant.3 ∙ whole _ c.if-text-eq0.false
 
 pub loop-i-preserved : goal.loop-i-preserved
-loop-i-preserved c = 
+loop-i-preserved c =
     let l = c.loop-i in
     let s = c.args.text.now in
     let more = ap (λ (x : ℕ). number_from x (drop (l.i + 1) s)) c.held-n.ensures.0 ∙ digit s l.n l.i (omega (arith, c.loop-i-test.true, l.invariant.1)) c.if-c-lt48.false c.if-c-gt57.false in

@@ -10,7 +10,7 @@ pub slice_bounds-write_all-end-in-Record : goal.slice_bounds-write_all-end-in-Re
 slice_bounds-write_all-end-in-Record c = sym (length-take-le _ _ (omega (arith, c.if-after-out.false)))
 
 pub loop-after-smaller : goal.loop-after-smaller
-loop-after-smaller c = 
+loop-after-smaller c =
     let a = c.args in
     let l = c.loop-after in
     let n = c.next_record-step in
@@ -18,7 +18,7 @@ loop-after-smaller c =
     omega (arith, moves.0, moves.1)
 
 pub loop-after-preserved : goal.loop-after-preserved
-loop-after-preserved c = 
+loop-after-preserved c =
     let a = c.args in
     let l = c.loop-after in
     let n = c.next_record-step in
