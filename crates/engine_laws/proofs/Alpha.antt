@@ -1,5 +1,4 @@
 -- How fast the offset glides: at every lawful rate `phase_alpha` is at most 3 / 1,024 in size (it is 0.0025 at 8,000, where it is largest, since exp never falls).
-use Prim.Native.Nat.{◌≤◌, ◌<◌}
 use mathlib.Core.Path.{◌≡◌, refl, subst}
 use mathlib.Core.Bool.{true, false, ◌&&◌}
 use lib.IntN.{pos, negsuc}

@@ -1,5 +1,5 @@
 -- The acts of a call, performed one after the other, lead where its contract says.
-use Prim.Native.Nat.{ℕ, zero, suc, ◌+◌, ◌^◌}
+use Prim.Native.Nat.{ℕ, zero, suc, ◌^◌}
 use mathlib.Core.Path.{◌≡◌, refl, ap, ◌∙◌}
 use mathlib.Core.Bool.{Bool, true, false}
 use mathlib.Core.List.{List, [], ◌∷◌, ◌++◌}

@@ -1,5 +1,5 @@
 -- What lies outside a rounded sum lies outside by the rounded difference too, over the format: x < fl(u + v) gives fl(x - u) <= v, and fl(u + v) < x gives v <= fl(x - u). And a size that is at least r, divided by r, is at least 1.
-use Prim.Native.Nat.{ℕ, zero, suc, ◌+◌, ◌-◌, ◌*◌, ◌^◌, ◌≤◌, ◌<◌}
+use Prim.Native.Nat.{ℕ, zero, suc, ◌+◌, ◌*◌, ◌^◌, ◌≤◌, ◌<◌}
 use native.Mathlib.Nat.{mul_comm, mul_assoc, mul_left_comm, mul-pos, add-mul, zero-lt-suc}
 use native.Mathlib.Omega.{arith}
 use mathlib.Core.Path.{◌≡◌, refl, sym, ap, ◌∙◌, subst}

@@ -1,9 +1,9 @@
 -- How many octaves of a root lie from 20 Hz to the top, 4186.01 Hz or a lower one from 4,000 Hz on: 7 or 8, for every root above 0 and finite. Between the logarithms of the ends lie
 -- 7.64 to 7.71; of the roundings of both differences no more than an eighth is asked.
-use Prim.Native.Nat.{ℕ, ◌+◌, ◌-◌, ◌*◌, ◌≤◌, ◌<◌}
+use Prim.Native.Nat.{ℕ, ◌+◌, ◌*◌, ◌≤◌, ◌<◌}
 use native.Mathlib.Nat.{mul-le-mul_right, mul-lt-mul_of_pos_right}
 use native.Mathlib.Omega.{arith}
-use mathlib.Core.Logic.{◌⊎◌, ⊎_elim}
+use mathlib.Core.Logic.{⊎_elim}
 use mathlib.Core.Bool.{false, not}
 use borrow.Author.Tests.{ltb-true, ltb-false}
 use lib.IntN.{negsuc}

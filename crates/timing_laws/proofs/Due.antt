@@ -16,7 +16,6 @@ use Rattle.floats.specs.Names.{f64, add64, sub64, mul64, div64, zero64}
 use Rattle.floats.specs.Whole.{floor}
 use Rattle.floats.specs.Choose.{max}
 use Rattle.floats.specs.Word.{product}
-use Rattle.floats_laws.proofs.Keys.{key}
 use Rattle.floats_laws.proofs.Rules.{finite_number, add_number, le_left, le_trans as float-trans}
 use Rattle.floats_laws.proofs.Rising.{add_rises, add_rises-right, mul_rises}
 use Rattle.floats_laws.proofs.Numbers.{mul_number}

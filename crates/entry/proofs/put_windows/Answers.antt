@@ -1,6 +1,5 @@
 -- `put_windows` meets its contract: window by window.
 use borrow.Author.Rules.{rules}
-use Prim.Native.Nat.{◌-◌}
 use mathlib.Core.Path.{ap, ◌∙◌}
 use Rattle.sequences.specs.Default.{get_d_any}
 use Rattle.text.proofs.Laws.{piece}

@@ -1,6 +1,6 @@
 -- `taken` meets its contract: one pass that frees in place, counts what it frees and shows beside it, and
 -- the callees' answers, put together.
-use Rattle.std.proofs.Common.{◌-◌, sym, ap, ◌∙◌, rules}
+use Rattle.std.proofs.Common.{sym, ap, ◌∙◌, rules}
 use Rattle.sequences.specs.Pick.{picked, passed}
 use Rattle.sequences.specs.Walk.{walked_none, walked_more, walked_all}
 use Rattle.frame.specs.Freed.{is_freed}
@@ -21,19 +21,19 @@ loop-i-preserved c =
     let free = c.free_particle-free.ensures in
     let freed = c.freed.ensures in
     elim c.if-freed.branch [
-      then-freed w ↦
-        rw (w.held-is, w.shown-is) (
-          pass_changed _ _ _ 64 _ _ _ _ m _ _ _ (search rules) (free ∙ due-is-freed _ _ _ (sym freed ∙ w.if-freed.true))
-              (c.nothing_shown-nothing.ensures ∙ free-shows-nothing _ _ ∙ ap (shown_of _ _) (sym free)),
-          walked_more inv.1 _ _ (search rules) (w.freed-is ∙ picked _ _ _ (sym (ap (is_freed _ _ 0) (pass_read _ _ _ 64 _ _ _ _ m _)) ∙ sym freed ∙ w.if-freed.true)),
-          search rules,
-        )
-    | else-freed w ↦
-        rw (w.held-is, w.shown-is) (
-          pass_kept _ _ _ 64 _ _ _ _ m _ _ (search rules) (other_stays _ _ _ (sym freed ∙ w.if-freed.false)) w.show.ensures,
-          walked_more inv.1 _ _ (search rules) (w.freed-is ∙ passed _ _ _ (sym (ap (is_freed _ _ 0) (pass_read _ _ _ 64 _ _ _ _ m _)) ∙ sym freed ∙ w.if-freed.false)),
-          search rules,
-        )
+      | then-freed w ↦
+          rw (w.held-is, w.shown-is) (
+            pass_changed _ _ _ 64 _ _ _ _ m _ _ _ (search rules) (free ∙ due-is-freed _ _ _ (sym freed ∙ w.if-freed.true))
+                (c.nothing_shown-nothing.ensures ∙ free-shows-nothing _ _ ∙ ap (shown_of _ _) (sym free)),
+            walked_more inv.1 _ _ (search rules) (w.freed-is ∙ picked _ _ _ (sym (ap (is_freed _ _ 0) (pass_read _ _ _ 64 _ _ _ _ m _)) ∙ sym freed ∙ w.if-freed.true)),
+            search rules,
+          )
+      | else-freed w ↦
+          rw (w.held-is, w.shown-is) (
+            pass_kept _ _ _ 64 _ _ _ _ m _ _ (search rules) (other_stays _ _ _ (sym freed ∙ w.if-freed.false)) w.show.ensures,
+            walked_more inv.1 _ _ (search rules) (w.freed-is ∙ passed _ _ _ (sym (ap (is_freed _ _ 0) (pass_read _ _ _ 64 _ _ _ _ m _)) ∙ sym freed ∙ w.if-freed.false)),
+            search rules,
+          )
     ]
 
 pub returns : goal.returns

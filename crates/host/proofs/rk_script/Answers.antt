@@ -9,6 +9,6 @@ pub overflow_cast-result : goal.overflow_cast-result
 overflow_cast-result c = let h = answer_small c.last_frame-answer.result in omega (arith, h, c.answer_number.ensures)
 
 pub returns : goal.returns
-returns c = 
+returns c =
     let e = c.last_frame-answer.ensures in
     (c.answer_number.ensures ∙ ap answer_of e.0, e.1)

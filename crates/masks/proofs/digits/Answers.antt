@@ -1,5 +1,5 @@
 -- `digits` meets its contract: a digit a turn.
-use Rattle.std.proofs.Common.{ℕ, ◌+◌, ◌-◌, drop, refl, ap, ◌∙◌, arith}
+use Rattle.std.proofs.Common.{ℕ, ◌+◌, drop, refl, ap, ◌∙◌, arith}
 use Rattle.masks.specs.Digits.{number_from}
 use Rattle.masks.proofs.Numbers.{no_digits, whole, ended, below, above, digit}
 use Rattle.masks.proofs.digits.Goals as goal

@@ -1,5 +1,5 @@
 -- `write_masks` is safe and ends: each record moves the walk on.
-use Rattle.std.proofs.Common.{◌≡◌, ◌-◌, length, sym, refl, ◌∙◌, arith, length-take-le, rules}
+use Rattle.std.proofs.Common.{◌≡◌, length, sym, refl, ◌∙◌, arith, length-take-le, rules}
 use Rattle.mask_files.proofs.Moves.{start-inside, record_moves}
 use Rattle.masks.proofs.write_masks.Goals as goal
 

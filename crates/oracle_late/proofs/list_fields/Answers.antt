@@ -1,5 +1,4 @@
 -- `list_fields` meets its contract: whatever writes the lines that are left completes the listing.
-use Prim.Native.Nat.{◌-◌}
 use mathlib.Core.Path.{◌≡◌, refl, ◌∙◌}
 use native.Mathlib.Omega.{arith}
 use Rattle.listing.specs.Reaching.{inside_of}

@@ -1,5 +1,5 @@
 -- `weights_of` meets its contract: a fill by the index.
-use Rattle.std.proofs.Common.{◌-◌, rules}
+use Rattle.std.proofs.Common.{rules}
 use Rattle.sequences.specs.Table.{filled_none, filled_more, filled-all}
 use Rattle.oracle_probe.specs.Numbers.{weights_from}
 use Rattle.oracle_probe.proofs.weights_of.Goals as goal

@@ -1,5 +1,4 @@
 -- `put_fields` meets its contract: whatever writes what the fields that are left leave completes it all.
-use Prim.Native.Nat.{◌-◌}
 use mathlib.Core.Path.{◌≡◌, refl, ◌∙◌}
 use native.Mathlib.Omega.{arith}
 use Rattle.script.proofs.Part.{rest}

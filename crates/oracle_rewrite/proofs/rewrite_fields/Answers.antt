@@ -1,5 +1,4 @@
 -- `rewrite_fields` meets its contract: what is written of the whole script is what is written of the fields that are left.
-use Prim.Native.Nat.{◌-◌}
 use mathlib.Core.Path.{refl, ap, ◌∙◌}
 use native.Mathlib.Omega.{arith}
 use lib.ListN.{length}

@@ -1,7 +1,5 @@
 -- `retire_bound` meets its contract: the loop maps the places one after the other.
-use Prim.Native.Nat.{◌-◌}
 use Rattle.sequences.specs.Upto.{mapped_none, mapped_more, mapped_all}
-use Rattle.pool.specs.Pool.{retire_bound_one}
 use borrow.Author.Rules.{rules}
 use Rattle.pool.proofs.retire_bound.Goals as goal
 

@@ -1,5 +1,4 @@
 -- `put` meets its contract: the loop pastes the piece byte by byte.
-use Prim.Native.Nat.{◌-◌}
 use mathlib.Core.Path.{◌≡◌, refl, ◌∙◌}
 use native.Mathlib.Omega.{arith}
 use lib.ListN.{length, length-set}

@@ -1,5 +1,4 @@
 -- `same` meets its contract: places that were passed are alike, and one that is not shows two texts.
-use Prim.Native.Nat.{◌-◌}
 use mathlib.Core.Bool.{true≢false}
 use mathlib.Core.Path.{refl, sym, ap}
 use native.Mathlib.Omega.{arith}

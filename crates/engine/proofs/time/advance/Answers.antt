@@ -72,10 +72,10 @@ loop-i-preserved c =
     let stepped =
     ap (with_clock d) c.clock_after-after.ensures
     ∙ elim c.if-config.branch [
-        then-config+in-Sprinkle w ↦ by-lanes e d t tempo w.if-config.true w.in-Sprinkle.is (w.out-is ∙ w.lanes-out.ensures)
+      | then-config+in-Sprinkle w ↦ by-lanes e d t tempo w.if-config.true w.in-Sprinkle.is (w.out-is ∙ w.lanes-out.ensures)
       | then-config+in-Cloud w ↦ by-cloud e d t tempo w.if-config.true w.in-Cloud.is (w.out-is ∙ w.cloud-out.ensures)
       | else-config w ↦ by-none e d t tempo w.if-config.false w.out-is
-      ] in (
+    ] in (
       omega arith,
       iterate-more stepped_of _ _ _ _ (waited_after _ _ _ _ _ _ _ c.loop-i.invariant.1 c.next_starts-starts.ensures c.tempo_of-tempo.ensures c.wait-waited.ensures) stepped,
     )

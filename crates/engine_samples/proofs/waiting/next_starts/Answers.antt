@@ -1,7 +1,6 @@
 -- `next_starts` meets its contract: a case for each shape, where births are scheduled.
 use Rattle.sequences.specs.Pick.{took, skipped}
 use Rattle.engine_samples.specs.Waiting.{starts_of, shape_starts}
-use Rattle.std.proofs.Common.{◌-◌}
 use Rattle.engine_samples.proofs.waiting.next_starts.Goals as goal
 
 pub returns-in-Sprinkle : goal.returns-in-Sprinkle

@@ -1,7 +1,7 @@
 -- `nothing_due` meets its contract: one test after the other.
 use Rattle.sequences.specs.Pick.{took, skipped}
 use Rattle.engine_samples.specs.Waiting.{nothing_due}
-use Rattle.std.proofs.Common.{◌-◌, refl}
+use Rattle.std.proofs.Common.{refl}
 use Rattle.engine_samples.proofs.waiting.nothing_due.Goals as goal
 
 pub returns-then-reference-starts-2 : goal.returns-then-reference-starts-2

@@ -1,5 +1,5 @@
 -- `wait` meets its contract: a sample by `glide` and those after it by `wait_gliding`, over and over, and the rest by `wait_at_rest`.
-use Rattle.std.proofs.Common.{◌-◌, sym, ◌∙◌, arith, rules}
+use Rattle.std.proofs.Common.{sym, ◌∙◌, arith, rules}
 use lib.Ieee.{binary64}
 use denote.Floats.{passes}
 use Rattle.floats.proofs.SameBits.{same_bits}

@@ -1,6 +1,6 @@
 -- `wait_at_rest` meets its contract: the offset stays, the phase moves on.
 use Rattle.engine_samples.proofs.Waits.{underway_none, underway_more, underway_all, underway_due, clock-after}
-use Rattle.std.proofs.Common.{◌-◌, sym, ◌∙◌, rules}
+use Rattle.std.proofs.Common.{sym, ◌∙◌, rules}
 use Rattle.engine_samples.proofs.waiting.wait_at_rest.Goals as goal
 
 pub loop-count-init : goal.loop-count-init

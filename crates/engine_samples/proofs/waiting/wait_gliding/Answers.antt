@@ -4,7 +4,7 @@ use lib.Ieee.Fits.{add-fits}
 use denote.Floats.{passes}
 use Rattle.floats.proofs.SameBits.{same_bits}
 use Rattle.engine_samples.proofs.Waits.{underway_none, underway_more, clock-after}
-use Rattle.std.proofs.Common.{◌-◌, sym, ◌∙◌}
+use Rattle.std.proofs.Common.{sym, ◌∙◌}
 use Rattle.engine_samples.proofs.waiting.wait_gliding.Goals as goal
 
 pub loop-count-init : goal.loop-count-init

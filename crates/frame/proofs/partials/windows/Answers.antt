@@ -1,5 +1,5 @@
 -- `windows` meets its contract: the loops fill by place and window, and leave the windows that show nothing.
-use Rattle.std.proofs.Common.{◌-◌, ◌∙◌, arith, rules}
+use Rattle.std.proofs.Common.{◌∙◌, arith, rules}
 use Rattle.windows.specs.Opening.{empty_window}
 use Rattle.frame.specs.Windows.{windows_of}
 use Rattle.frame.proofs.Blank.{blank_none, blank_turns, blank_stored, blank_left, blank_all}
@@ -20,12 +20,12 @@ loop-w-preserved c =
     let place = c.loop-p-test.true in (
       search rules,
       elim c.if-row-lt-MAX_PARTIALS.branch [
-        then-row-lt-MAX_PARTIALS u ↦
-          rw u.out-is
-          (blank_stored _ _ _ _ _ m place (search rules) _
-          (u.placed.ensures ∙ row_shows _ _ _ _ _ _ u.if-row-lt-MAX_PARTIALS.true (row.0 u.if-row-lt-MAX_PARTIALS.true) ∙ at_place _ _ _ _ _ _ place))
-      | else-row-lt-MAX_PARTIALS u ↦
-          rw u.out-is (blank_left _ _ _ _ _ m place (search rules) (other-shows-none _ _ _ _ _ (row.1 u.if-row-lt-MAX_PARTIALS.false) ∙ at_place _ _ _ _ _ _ place))
+        | then-row-lt-MAX_PARTIALS u ↦
+            rw u.out-is
+            (blank_stored _ _ _ _ _ m place (search rules) _
+            (u.placed.ensures ∙ row_shows _ _ _ _ _ _ u.if-row-lt-MAX_PARTIALS.true (row.0 u.if-row-lt-MAX_PARTIALS.true) ∙ at_place _ _ _ _ _ _ place))
+        | else-row-lt-MAX_PARTIALS u ↦
+            rw u.out-is (blank_left _ _ _ _ _ m place (search rules) (other-shows-none _ _ _ _ _ (row.1 u.if-row-lt-MAX_PARTIALS.false) ∙ at_place _ _ _ _ _ _ place))
       ],
     )
 

@@ -8,7 +8,7 @@ use Rattle.host.specs.Masks.{place_by}
 use Rattle.host.proofs.masks.rk_masks.Goals as goal
 
 pub returns : goal.returns
-returns c = 
+returns c =
     let a = c.args in
     let e = c.masks-filed.ensures in
     let t = c.told.ensures in

@@ -23,20 +23,20 @@ stepped c =
     let f = c.match-field.frame in
     let r = c.match-field.reply in
     elim c.match-field.branch [
-      in-Rate w ↦ by-done run e f r w.new_engine-done.result _ w.new_engine-done.ensures w.engine-is w.frame-is (w.reply-is ∙ w.answered-reply.ensures) ∙ sym (ap (step_of run) w.in-Rate.is)
-    | in-Configure w ↦ by-done run e f r w.configure-done.result _ w.configure-done.ensures w.engine-is w.frame-is (w.reply-is ∙ w.answered-reply-in-Configure.ensures) ∙ sym (ap (step_of run) w.in-Configure.is)
-    | in-Source w ↦ by-done run e f r w.set_source-done.result _ w.set_source-done.ensures w.engine-is w.frame-is (w.reply-is ∙ w.answered-reply-in-Source.ensures) ∙ sym (ap (step_of run) w.in-Source.is)
-    | in-Retire w ↦ by-done run e f r w.retire_source-done.result _ w.retire_source-done.ensures w.engine-is w.frame-is (w.reply-is ∙ w.answered-reply-in-Retire.ensures) ∙ sym (ap (step_of run) w.in-Retire.is)
-    | in-Release w ↦ by-done run e f r w.release_source-done.result _ w.release_source-done.ensures w.engine-is w.frame-is (w.reply-is ∙ w.answered-reply-in-Release.ensures) ∙ sym (ap (step_of run) w.in-Release.is)
-    | in-Trigger w ↦ by-trigger run e f r w.trigger-triggered.result _ w.trigger-triggered.ensures w.engine-is w.frame-is (w.reply-is ∙ w.fired-reply.ensures) ∙ sym (ap (step_of run) w.in-Trigger.is)
-    | in-Seek w ↦ by-quiet run e f r w.seek-engine.result _ w.seek-engine.ensures w.engine-is w.frame-is w.reply-is ∙ sym (ap (step_of run) w.in-Seek.is)
-    | in-Advance w ↦ by-done run e f r w.advance-done.result _ w.advance-done.ensures w.engine-is w.frame-is (w.reply-is ∙ w.answered-reply-in-Advance.ensures) ∙ sym (ap (step_of run) w.in-Advance.is)
-    | in-Frame+in-Taken w ↦ by-frame run e f r w.take_frame-framed.result _ w.take_frame-framed.ensures w.engine-is w.values_of-values.result w.in-Taken.is w.frame-is w.values_of-values.ensures w.reply-is ∙ sym (ap (step_of run) w.in-Frame.is)
-    | in-Frame+in-Refused w ↦ by_no_frame run e f r w.take_frame-framed.result _ w.take_frame-framed.ensures w.engine-is _ w.in-Refused.is w.frame-is w.reply-is ∙ sym (ap (step_of run) w.in-Frame.is)
-    | in-NoteInput w ↦ by-quiet run e f r w.set_note_input_present-engine.result _ w.set_note_input_present-engine.ensures w.engine-is w.frame-is w.reply-is ∙ sym (ap (step_of run) w.in-NoteInput.is)
-    | in-Reset w ↦ by-quiet run e f r w.reset-engine.result _ w.reset-engine.ensures w.engine-is w.frame-is w.reply-is ∙ sym (ap (step_of run) w.in-Reset.is)
-    | in-Reserve w ↦ by-quiet run e f r w.reserve_trigger-reserved.result.engine _ (ap (λ (x : Reserved). x.engine) w.reserve_trigger-reserved.ensures) w.engine-is w.frame-is w.reply-is ∙ sym (ap (step_of run) w.in-Reserve.is)
-    | in-ReservedTrigger w ↦ by-trigger run e f r w.trigger_reserved-triggered.result _ w.trigger_reserved-triggered.ensures w.engine-is w.frame-is (w.reply-is ∙ w.fired-reply-in-ReservedTrigger.ensures) ∙ sym (ap (step_of run) w.in-ReservedTrigger.is)
+      | in-Rate w ↦ by-done run e f r w.new_engine-done.result _ w.new_engine-done.ensures w.engine-is w.frame-is (w.reply-is ∙ w.answered-reply.ensures) ∙ sym (ap (step_of run) w.in-Rate.is)
+      | in-Configure w ↦ by-done run e f r w.configure-done.result _ w.configure-done.ensures w.engine-is w.frame-is (w.reply-is ∙ w.answered-reply-in-Configure.ensures) ∙ sym (ap (step_of run) w.in-Configure.is)
+      | in-Source w ↦ by-done run e f r w.set_source-done.result _ w.set_source-done.ensures w.engine-is w.frame-is (w.reply-is ∙ w.answered-reply-in-Source.ensures) ∙ sym (ap (step_of run) w.in-Source.is)
+      | in-Retire w ↦ by-done run e f r w.retire_source-done.result _ w.retire_source-done.ensures w.engine-is w.frame-is (w.reply-is ∙ w.answered-reply-in-Retire.ensures) ∙ sym (ap (step_of run) w.in-Retire.is)
+      | in-Release w ↦ by-done run e f r w.release_source-done.result _ w.release_source-done.ensures w.engine-is w.frame-is (w.reply-is ∙ w.answered-reply-in-Release.ensures) ∙ sym (ap (step_of run) w.in-Release.is)
+      | in-Trigger w ↦ by-trigger run e f r w.trigger-triggered.result _ w.trigger-triggered.ensures w.engine-is w.frame-is (w.reply-is ∙ w.fired-reply.ensures) ∙ sym (ap (step_of run) w.in-Trigger.is)
+      | in-Seek w ↦ by-quiet run e f r w.seek-engine.result _ w.seek-engine.ensures w.engine-is w.frame-is w.reply-is ∙ sym (ap (step_of run) w.in-Seek.is)
+      | in-Advance w ↦ by-done run e f r w.advance-done.result _ w.advance-done.ensures w.engine-is w.frame-is (w.reply-is ∙ w.answered-reply-in-Advance.ensures) ∙ sym (ap (step_of run) w.in-Advance.is)
+      | in-Frame+in-Taken w ↦ by-frame run e f r w.take_frame-framed.result _ w.take_frame-framed.ensures w.engine-is w.values_of-values.result w.in-Taken.is w.frame-is w.values_of-values.ensures w.reply-is ∙ sym (ap (step_of run) w.in-Frame.is)
+      | in-Frame+in-Refused w ↦ by_no_frame run e f r w.take_frame-framed.result _ w.take_frame-framed.ensures w.engine-is _ w.in-Refused.is w.frame-is w.reply-is ∙ sym (ap (step_of run) w.in-Frame.is)
+      | in-NoteInput w ↦ by-quiet run e f r w.set_note_input_present-engine.result _ w.set_note_input_present-engine.ensures w.engine-is w.frame-is w.reply-is ∙ sym (ap (step_of run) w.in-NoteInput.is)
+      | in-Reset w ↦ by-quiet run e f r w.reset-engine.result _ w.reset-engine.ensures w.engine-is w.frame-is w.reply-is ∙ sym (ap (step_of run) w.in-Reset.is)
+      | in-Reserve w ↦ by-quiet run e f r w.reserve_trigger-reserved.result.engine _ (ap (λ (x : Reserved). x.engine) w.reserve_trigger-reserved.ensures) w.engine-is w.frame-is w.reply-is ∙ sym (ap (step_of run) w.in-Reserve.is)
+      | in-ReservedTrigger w ↦ by-trigger run e f r w.trigger_reserved-triggered.result _ w.trigger_reserved-triggered.ensures w.engine-is w.frame-is (w.reply-is ∙ w.fired-reply-in-ReservedTrigger.ensures) ∙ sym (ap (step_of run) w.in-ReservedTrigger.is)
     ]
 
 -- the turn of the field

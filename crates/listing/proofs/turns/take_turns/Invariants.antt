@@ -1,6 +1,5 @@
 use Rattle.std.proofs.Common.{◌-◌, length}
 use Rattle.listing.proofs.Going.{Going}
-use Rattle.listing.specs.declared.lines.Line.TheVariants as L
 use Rattle.listing.proofs.turns.take_turns.Given as goal
 
 abbrev pub invariant-loop-field : goal.invariant-loop-field

@@ -1,5 +1,5 @@
 -- `measure` meets its contract: what is counted and what is left are the whole.
-use Rattle.std.proofs.Common.{◌≡◌, ◌+◌, ◌-◌, ◌^◌, ◌<◌, length, refl, ◌∙◌, subst, arith, rules}
+use Rattle.std.proofs.Common.{◌≡◌, ◌+◌, ◌^◌, ◌<◌, length, refl, ◌∙◌, subst, arith, rules}
 use Rattle.mask_files.proofs.Steps.{Bins, Tells, told}
 use Rattle.mask_files.proofs.Passes.{measuring_starts, after_most, measuring_on, measuring_ends, measuring_stops}
 use Rattle.mask_files.proofs.file.measure.Goals as goal

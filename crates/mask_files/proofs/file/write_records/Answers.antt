@@ -1,5 +1,5 @@
 -- `write_records` meets its contract: whatever writes what is left completes the file.
-use Rattle.std.proofs.Common.{◌≡◌, ◌+◌, ◌-◌, ◌^◌, ◌<◌, length, refl, ◌∙◌, subst, arith, rules}
+use Rattle.std.proofs.Common.{◌≡◌, ◌+◌, ◌^◌, ◌<◌, length, refl, ◌∙◌, subst, arith, rules}
 use Rattle.mask_files.proofs.Steps.{Bins, Tells, told}
 use Rattle.mask_files.proofs.Passes.{writing_starts, writing-on, writing-ends, writing_stops}
 use Rattle.mask_files.proofs.file.write_records.Goals as goal

@@ -1,8 +1,7 @@
 -- `fill` meets its contract: a logarithm for each bin.
-use Prim.Native.Nat.{◌-◌}
 use mathlib.Core.Path.{refl}
 use Rattle.sequences.specs.Table.{filled_none, filled_more, filled-all}
-use Rattle.mask_gains.specs.Bins.{log_at, logs_of}
+use Rattle.mask_gains.specs.Bins.{logs_of}
 use Rattle.mask_gains.proofs.bins.fill.Goals as goal
 
 pub loop-bin-init : goal.loop-bin-init

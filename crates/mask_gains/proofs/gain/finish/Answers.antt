@@ -1,6 +1,5 @@
 -- `finish` meets its contract: a gain for each bin.
 use borrow.Author.Rules.{rules}
-use Prim.Native.Nat.{◌-◌}
 use mathlib.Core.Path.{sym}
 use Rattle.sequences.specs.Table.{filled_none, filled_more, filled-all}
 use Rattle.mask_gains.proofs.gain.finish.Goals as goal

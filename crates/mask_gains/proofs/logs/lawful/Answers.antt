@@ -1,7 +1,6 @@
 -- `lawful` meets its contract: the bins below i are lawful.
 use borrow.Author.Rules.{rules}
 use native.Mathlib.Omega.{arith}
-use Prim.Native.Nat.{◌-◌}
 use mathlib.Core.Path.{◌∙◌}
 use Rattle.mask_gains.proofs.Scanned.{lawful-short, lawful-first, lawful-next, lawful-all}
 use Rattle.mask_gains.proofs.logs.lawful.Goals as goal

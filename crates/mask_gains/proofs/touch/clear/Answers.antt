@@ -1,5 +1,4 @@
 -- `clear` meets its contract: the same at each place.
-use Prim.Native.Nat.{◌-◌}
 use mathlib.Core.Path.{refl}
 use Rattle.sequences.specs.Table.{filled_none, filled_more, filled-all}
 use Rattle.mask_gains.proofs.touch.clear.Goals as goal

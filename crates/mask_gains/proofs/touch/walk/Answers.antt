@@ -1,6 +1,5 @@
 -- `walk` meets its contract: the windows in order.
 use borrow.Author.Rules.{rules}
-use Prim.Native.Nat.{◌-◌}
 use mathlib.Core.Path.{sym, ap, ◌∙◌}
 use lib.ListN.{length}
 use Rattle.sequences.specs.Table.{length_table}

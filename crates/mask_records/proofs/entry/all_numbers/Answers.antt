@@ -5,7 +5,7 @@ use lib.Ieee.{nan}
 use Rattle.sequences.specs.All.{all}
 use Rattle.mask_records.specs.Entries.{entry_attenuation, is_number}
 use native.Mathlib.Omega.{arith}
-use Prim.Native.Nat.{ℕ, ◌-◌}
+use Prim.Native.Nat.{ℕ}
 use mathlib.Core.Path.{◌≡◌, refl, ap, ◌∙◌}
 use borrow.Author.Rules.{rules}
 use Rattle.mask_records.proofs.entry.all_numbers.Goals as goal

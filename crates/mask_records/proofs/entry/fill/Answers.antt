@@ -1,6 +1,5 @@
 -- `fill` meets its contract: an entry for each bin.
 use Rattle.sequences.specs.Table.{filled_none, filled_more, filled-all}
-use Prim.Native.Nat.{◌-◌}
 use borrow.Author.Rules.{rules}
 use Rattle.mask_records.proofs.entry.fill.Goals as goal
 

@@ -1,6 +1,5 @@
 -- `fill_ones` meets its contract: the same at each place.
 use Rattle.sequences.specs.Table.{filled_none, filled_more, filled-all}
-use Prim.Native.Nat.{◌-◌}
 use mathlib.Core.Path.{refl}
 use Rattle.mask_records.proofs.entry.fill_ones.Goals as goal
 

@@ -1,6 +1,5 @@
 -- `hand_over` meets its contract: a copy.
 use Rattle.sequences.specs.Table.{filled_none, filled_more, filled-all, table-own}
-use Prim.Native.Nat.{◌-◌}
 use mathlib.Core.Path.{refl, ◌∙◌}
 use borrow.Author.Rules.{rules}
 use Rattle.mask_records.proofs.entry.hand_over.Goals as goal

@@ -4,7 +4,7 @@ use lib.Seq.{paste-zero}
 use Rattle.mask_records.specs.Bytes.{pairs_of}
 use Rattle.mask_records.proofs.Places.{pair_turn, pairs_all}
 use native.Mathlib.Omega.{arith}
-use Prim.Native.Nat.{ℕ, ◌-◌}
+use Prim.Native.Nat.{ℕ}
 use mathlib.Core.List.{List}
 use mathlib.Core.Path.{refl, ap}
 use Rattle.mask_records.proofs.place.put_pairs.Goals as goal

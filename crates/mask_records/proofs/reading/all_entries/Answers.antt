@@ -4,7 +4,7 @@ use Rattle.sequences.specs.All.{all}
 use Rattle.mask_records.specs.Decibels.{is_entry}
 use Rattle.mask_records.specs.Found.{entry_in}
 use native.Mathlib.Omega.{arith}
-use Prim.Native.Nat.{ℕ, ◌-◌}
+use Prim.Native.Nat.{ℕ}
 use mathlib.Core.Path.{◌≡◌, refl, ap, ◌∙◌}
 use borrow.Author.Rules.{rules}
 use Rattle.mask_records.proofs.reading.all_entries.Goals as goal

@@ -1,6 +1,5 @@
 -- `hand_out` meets its contract: an entry for each place.
 use Rattle.sequences.specs.Table.{filled_none, filled_more, filled-all}
-use Prim.Native.Nat.{◌-◌}
 use mathlib.Core.Path.{refl}
 use Rattle.mask_records.proofs.reading.hand_out.Goals as goal
 

@@ -1,5 +1,5 @@
 -- `frame_of` meets its contract: a window for each index.
-use Rattle.std.proofs.Common.{◌-◌, rules}
+use Rattle.std.proofs.Common.{rules}
 use Rattle.sequences.specs.Table.{filled_none, filled_more, filled-all}
 use Rattle.oracle_probe.specs.Frames.{flat_frame}
 use Rattle.oracle_probe.proofs.frames.frame_of.Goals as goal

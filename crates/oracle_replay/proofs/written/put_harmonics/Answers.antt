@@ -1,5 +1,4 @@
 -- `put_harmonics` meets its contract: piece by piece.
-use Prim.Native.Nat.{◌-◌}
 use mathlib.Core.Path.{ap}
 use Rattle.oracle_replay.specs.State.{words_bytes, harmonics_bytes}
 use Rattle.text.proofs.Joined.{none_yet, one_more, all_there}

@@ -1,5 +1,4 @@
 -- `put_particles` meets its contract: piece by piece.
-use Prim.Native.Nat.{◌-◌}
 use mathlib.Core.Path.{ap, ◌∙◌}
 use Rattle.pool.specs.Pool.{free_particle}
 use Rattle.sequences.specs.Default.{get_d_any}

@@ -1,5 +1,4 @@
 -- `put_sources` meets its contract: piece by piece.
-use Prim.Native.Nat.{◌-◌}
 use mathlib.Core.Path.{ap, ◌∙◌}
 use Rattle.sources.specs.Sources.{no_source}
 use Rattle.sequences.specs.Default.{get_d_any}

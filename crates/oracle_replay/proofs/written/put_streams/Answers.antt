@@ -1,5 +1,4 @@
 -- `put_streams` meets its contract: piece by piece.
-use Prim.Native.Nat.{◌-◌}
 use mathlib.Core.Path.{ap, ◌∙◌}
 use mathlib.Core.Bool.{false}
 use Rattle.timing.specs.Streams.{new_of}

@@ -1,5 +1,4 @@
 -- `put_words` meets its contract: number by number.
-use Prim.Native.Nat.{◌-◌}
 use mathlib.Core.Path.{refl}
 use native.Mathlib.Omega.{arith}
 use Rattle.oracle_replay.specs.State.{words_bytes}

@@ -1,5 +1,4 @@
 -- `sum` meets its contract: the total so far, with the entries that are left, is the sum of all.
-use Prim.Native.Nat.{◌-◌}
 use native.Mathlib.Numerals.{add-one}
 use native.Mathlib.Omega.{arith}
 use Rattle.picture.proofs.Bins.{sum_drop, sum-none}

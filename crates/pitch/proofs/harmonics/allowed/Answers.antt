@@ -1,5 +1,5 @@
 -- `allowed` meets its contract: a weight for each index.
-use Rattle.std.proofs.Common.{◌-◌, rules}
+use Rattle.std.proofs.Common.{rules}
 use Rattle.sequences.specs.Table.{filled_none, filled_more, filled-all}
 use Rattle.pitch.specs.Partials.{allowed_of}
 use Rattle.pitch.proofs.harmonics.allowed.Goals as goal

@@ -1,5 +1,5 @@
 -- `drawn` meets its contract: slot by slot.
-use Rattle.std.proofs.Common.{◌-◌, rules}
+use Rattle.std.proofs.Common.{rules}
 use Rattle.pitch.proofs.Turns.{drawn-none, drawn-more, drawn_here, drawn-all}
 use Rattle.pitch.specs.Partials.{partials_drawn}
 use Rattle.pitch.proofs.harmonics.drawn.Goals as goal

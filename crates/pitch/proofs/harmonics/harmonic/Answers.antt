@@ -1,5 +1,5 @@
 -- `harmonic` meets its contract: the walk, turn by turn.
-use Rattle.std.proofs.Common.{◌-◌, sym, ◌∙◌, rules}
+use Rattle.std.proofs.Common.{sym, ◌∙◌, rules}
 use Rattle.sequences.specs.Pick.{picked, passed}
 use Rattle.sequences.specs.Rest.{rest-none, rest_more, rest_here, rest_all}
 use Rattle.pitch.specs.Partials.{harmonic_from, harmonic_of}

@@ -1,5 +1,5 @@
 -- `sum` meets its contract: a walk over the weights.
-use Rattle.std.proofs.Common.{◌-◌, refl, rules}
+use Rattle.std.proofs.Common.{refl, rules}
 use Rattle.sequences.specs.Walk.{walked_none, walked_more, walked_all}
 use Rattle.pitch.specs.Partials.{sum_of}
 use Rattle.pitch.proofs.harmonics.sum.Goals as goal

@@ -1,7 +1,7 @@
 -- `chosen` meets its contract: the walk, turn by turn.
 use lib.Ieee.{Float}
 use Rattle.floats.specs.Names.{sub32}
-use Rattle.std.proofs.Common.{◌-◌, ap, ◌∙◌, rules}
+use Rattle.std.proofs.Common.{ap, ◌∙◌, rules}
 use Rattle.pitch.proofs.Walks.{chosen_none, chosen_here, chosen_more, chosen_end}
 use Rattle.pitch.specs.Octave.{octave_chosen}
 use Rattle.pitch.proofs.octaves.chosen.Goals as goal

@@ -1,5 +1,5 @@
 -- `total` meets its contract: after i octaves the sum is the definition's.
-use Rattle.std.proofs.Common.{◌≡◌, ℕ, ◌-◌, ap, ◌∙◌, arith}
+use Rattle.std.proofs.Common.{◌≡◌, ℕ, ap, ◌∙◌, arith}
 use Rattle.floats.specs.Names.{add32, minus_zero32}
 use lib.Ieee.{Float}
 use Rattle.sequences.specs.Times.{times, times_none, times_more}

@@ -1,5 +1,4 @@
 -- `free_place` meets its contract: the loop stops at the first free one.
-use Prim.Native.Nat.{◌-◌}
 use mathlib.Core.Path.{ap}
 use Rattle.sequences.specs.First.{sought_none, sought_more, sought_here, sought_all}
 use mathlib.Core.Bool.{not}

@@ -4,7 +4,7 @@ use lib.Ieee.{Float, binary32, binary64, fits, is_nan, add, mul, lt, neg, of_bit
 use lib.Ieee.Fits.{fits_widens, and_i}
 use lib.Ieee.Scale.{finite}
 use denote.Floats.{passes}
-use Rattle.floats.proofs.Facts.{ne_self, no_nan}
+use Rattle.floats.proofs.Facts.{ne_self}
 use Rattle.floats.proofs.Narrow as Narrow
 use Rattle.floats_laws.proofs.Numbers.{lt_left-number, inside-finite, mul_number}
 use Rattle.floats_laws.proofs.Rules.{add_number}

@@ -1,7 +1,5 @@
 -- `alternatives` meets its contract: the loop counts.
-use Prim.Native.Nat.{◌-◌}
 use mathlib.Core.Path.{sym, ◌∙◌}
-use mathlib.Core.Logic.{⊎_elim}
 use Rattle.sequences.specs.Pick.{picked, passed}
 use Rattle.sequences.specs.Walk.{walked_none, walked_more, walked_all}
 use borrow.Author.Rules.{rules}
@@ -16,8 +14,8 @@ loop-i-preserved c =
     let m = c.loop-i.invariant.0 in
     let e = c.alternative.ensures in
     elim c.if-alternative.branch [
-      then-alternative w ↦ (walked_more m _ _ (search rules) (w.n-is ∙ picked _ _ _ (sym e ∙ w.if-alternative.true)), search rules)
-    | else-alternative w ↦ (walked_more m _ _ (search rules) (w.n-is ∙ passed _ _ _ (sym e ∙ w.if-alternative.false)), search rules)
+      | then-alternative w ↦ (walked_more m _ _ (search rules) (w.n-is ∙ picked _ _ _ (sym e ∙ w.if-alternative.true)), search rules)
+      | else-alternative w ↦ (walked_more m _ _ (search rules) (w.n-is ∙ passed _ _ _ (sym e ∙ w.if-alternative.false)), search rules)
     ]
 
 pub returns : goal.returns

@@ -1,8 +1,6 @@
 -- `nth` meets its contract: the loop walks to it.
 use native.Mathlib.Omega.{arith}
-use Prim.Native.Nat.{◌-◌}
 use mathlib.Core.Path.{sym, ◌∙◌}
-use mathlib.Core.Logic.{⊎_elim}
 use Rattle.sequences.specs.Pick.{picked, passed}
 use Rattle.sequences.specs.Rest.{rest-none, rest-next, rest_here, rest_all}
 use borrow.Author.Tests.{eq-eqb, ne_eqb}
@@ -24,8 +22,8 @@ loop-i-preserved c =
     let m = c.loop-i.invariant in
     let e = c.alternative.ensures in
     elim c.if-alternative.branch [
-      then-alternative+else-left-eq0 w ↦ rest-next m _ _ _ (search rules) w.left-is (sym (passed _ _ _ (ne_eqb _ _ w.if-left-eq0.false) ∙ picked _ _ _ (sym e ∙ w.if-alternative.true)))
-    | else-alternative w ↦ rest-next m _ _ _ (search rules) w.left-is (sym (passed _ _ _ (sym e ∙ w.if-alternative.false)))
+      | then-alternative+else-left-eq0 w ↦ rest-next m _ _ _ (search rules) w.left-is (sym (passed _ _ _ (ne_eqb _ _ w.if-left-eq0.false) ∙ picked _ _ _ (sym e ∙ w.if-alternative.true)))
+      | else-alternative w ↦ rest-next m _ _ _ (search rules) w.left-is (sym (passed _ _ _ (sym e ∙ w.if-alternative.false)))
     ]
 
 pub returns : goal.returns

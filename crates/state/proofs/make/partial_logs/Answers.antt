@@ -1,5 +1,5 @@
 -- `partial_logs` meets its contract: the loop fills the table.
-use Rattle.std.proofs.Common.{◌-◌, ap, ◌∙◌, rules}
+use Rattle.std.proofs.Common.{ap, ◌∙◌, rules}
 use Rattle.sequences.specs.Table.{filled_none, filled_more, filled-all}
 use Rattle.state.specs.Make.{partial_logs_of}
 use Rattle.elementary.specs.Log2.{log2_of}

@@ -1,8 +1,7 @@
 -- `weights` meets its contract: the loop fills the table.
-use Rattle.std.proofs.Common.{◌-◌, rules}
+use Rattle.std.proofs.Common.{rules}
 use Rattle.sequences.specs.Table.{filled_none, filled_more, filled-all}
 use Rattle.state.specs.Make.{weights_of}
-use Rattle.powers.specs.Power.{db_to_gain}
 use Rattle.state.proofs.make.weights.Goals as goal
 
 pub loop-i-init : goal.loop-i-init

@@ -1,7 +1,6 @@
 -- `opened` meets its contract: a walk over the windows.
 use borrow.Author.Rules.{rules}
 use mathlib.Core.Path.{ap, ◌∙◌}
-use Prim.Native.Nat.{◌-◌}
 use Rattle.sequences.specs.Walk.{walked_none, walked_more, walked_all}
 use Rattle.floats.specs.Choose.{max}
 use Rattle.windows.specs.Attenuation.{opened_by}
