@@ -22,9 +22,9 @@ fn measure(
     scratch: &mut [f32],
     lent: &mut [u8],
 ) -> Measured
-    requires script_len_bound { length script.now ≤ 60000 }
-    requires in_bounds { (1 ≤ length logs.now) × (length logs.now ≤ 8193) × (lawful_logs logs.now ≡ true) × (length scratch.old ≡ length logs.now) }
-    requires logs_in_bounds { record_size (length logs.now) ≤ length lent.old }
+    requires script_fits { length script.now ≤ 60000 }
+    requires logs_lawful { (1 ≤ length logs.now) × (length logs.now ≤ 8193) × (lawful_logs logs.now ≡ true) × (length scratch.old ≡ length logs.now) }
+    requires lent_fits { record_size (length logs.now) ≤ length lent.old }
     ensures { result ≡ measured_of (filed_of depth_db logs.now (turns_of script.now)) }
 {
     let mut walk = start();
@@ -59,9 +59,9 @@ fn write_records(
     out: &mut [u8],
     at: usize,
 ) -> usize
-    requires script_len_bound { length script.now ≤ 60000 }
-    requires in_bounds { (1 ≤ length logs.now) × (length logs.now ≤ 8193) × (lawful_logs logs.now ≡ true) × (length scratch.old ≡ length logs.now) }
-    requires script_value { ((filed_of depth_db logs.now (turns_of script.now)).1 ≡ Answer.Taken) × (at + length (filed_of depth_db logs.now (turns_of script.now)).0 ≤ length out.old) }
+    requires script_fits { length script.now ≤ 60000 }
+    requires logs_lawful { (1 ≤ length logs.now) × (length logs.now ≤ 8193) × (lawful_logs logs.now ≡ true) × (length scratch.old ≡ length logs.now) }
+    requires taken_with_room { ((filed_of depth_db logs.now (turns_of script.now)).1 ≡ Answer.Taken) × (at + length (filed_of depth_db logs.now (turns_of script.now)).0 ≤ length out.old) }
     ensures { (result ≡ at + length (filed_of depth_db logs.now (turns_of script.now)).0) × (out.new ≡ splice out.old at (filed_of depth_db logs.now (turns_of script.now)).0) }
 {
     let mut walk = start();
@@ -95,9 +95,9 @@ fn place(
     out: &mut [u8],
     at: usize,
 ) -> Filed
-    requires script_len_bound { length script.now ≤ 60000 }
-    requires in_bounds { (1 ≤ length logs.now) × (length logs.now ≤ 8193) × (lawful_logs logs.now ≡ true) × (length scratch.old ≡ length logs.now) }
-    requires logs_in_bounds { record_size (length logs.now) ≤ length lent.old }
+    requires script_fits { length script.now ≤ 60000 }
+    requires logs_lawful { (1 ≤ length logs.now) × (length logs.now ≤ 8193) × (lawful_logs logs.now ≡ true) × (length scratch.old ≡ length logs.now) }
+    requires lent_fits { record_size (length logs.now) ≤ length lent.old }
     ensures { (result, out.new) ≡ filed_into (filed_of depth_db logs.now (turns_of script.now)) out.old at }
 {
     let measured = measure(script, depth_db, logs, scratch, lent);
@@ -129,8 +129,8 @@ fn file(
     out: &mut [u8],
     at: usize,
 ) -> Filed
-    requires le_fft_size { (1 ≤ fft_size) × (fft_size ≤ 16384) × (length script.now ≤ 60000) }
-    requires logs_len { (length logs.old ≡ bins_of fft_size) × (length scratch.old ≡ bins_of fft_size) × (length lent.old ≡ 16402) }
+    requires sizes_fit { (1 ≤ fft_size) × (fft_size ≤ 16384) × (length script.now ≤ 60000) }
+    requires lengths_agree { (length logs.old ≡ bins_of fft_size) × (length scratch.old ≡ bins_of fft_size) × (length lent.old ≡ 16402) }
     ensures { (result, out.new) ≡ filed_into (filed_of depth_db (logs_for script.now fft_size) (turns_of script.now)) out.old at }
 {
     crate::rate::prepare(script, fft_size, logs);

@@ -14,12 +14,12 @@ place-requires c =
     let pre = c.requires in
     let p = c.prepare in
     let s = a.script.now in
-    let some = pre.le_fft_size.0 in
-    let most = pre.le_fft_size.1 in
+    let some = pre.sizes_fit.0 in
+    let most = pre.sizes_fit.1 in
     let logs = p.new.logs in
-    let is : logs ≡ logs_for s a.fft_size = prepared-is s a.fft_size some most a.logs.now logs p.result pre.logs_len.0 p.ensures in
+    let is : logs ≡ logs_for s a.fft_size = prepared-is s a.fft_size some most a.logs.now logs p.result pre.lengths_agree.0 p.ensures in
     let n : length logs ≡ bins_of a.fft_size = ap length is ∙ logs_count s a.fft_size some most in
-    record { script_len_bound = pre.le_fft_size.2; in_bounds = (omega (arith, n, some), omega (arith, n, most), subst (λ (x : List Float). lawful_logs x ≡ true) (sym is) (logs_lawful s a.fft_size some most), pre.logs_len.1 ∙ sym n); logs_in_bounds = omega (arith, n, most, pre.logs_len.2) }
+    record { script_fits = pre.sizes_fit.2; logs_lawful = (omega (arith, n, some), omega (arith, n, most), subst (λ (x : List Float). lawful_logs x ≡ true) (sym is) (logs_lawful s a.fft_size some most), pre.lengths_agree.1 ∙ sym n); lent_fits = omega (arith, n, most, pre.lengths_agree.2) }
 
 pub returns : goal.returns
 returns c =
@@ -27,8 +27,8 @@ returns c =
     let pre = c.requires in
     let p = c.prepare in
     let s = a.script.now in
-    let some = pre.le_fft_size.0 in
-    let most = pre.le_fft_size.1 in
+    let some = pre.sizes_fit.0 in
+    let most = pre.sizes_fit.1 in
     let logs = p.new.logs in
-    let is : logs ≡ logs_for s a.fft_size = prepared-is s a.fft_size some most a.logs.now logs p.result pre.logs_len.0 p.ensures in
+    let is : logs ≡ logs_for s a.fft_size = prepared-is s a.fft_size some most a.logs.now logs p.result pre.lengths_agree.0 p.ensures in
     c.place.ensures ∙ ap (λ (x : List Float). filed_into (filed_of a.depth_db x (turns_of s)) a.out.now a.at) is

@@ -23,7 +23,7 @@ file-requires c =
     let one = c.bins-logs.ensures in
     let two = c.bins-scratch.ensures in
     let most = c.if-fft_size-gt-MAX_FFT_SIZE.false in
-    record { le_fft_size = (c.if-fft_size-lt1.false, most, c.if-script-gt-MAX_SCRIPT_BYTES.false); logs_len = (length-take-le _ _ (omega (arith, one, most)), length-take-le _ _ (omega (arith, two, most)), c.longest_record-lent.ensures) }
+    record { sizes_fit = (c.if-fft_size-lt1.false, most, c.if-script-gt-MAX_SCRIPT_BYTES.false); lengths_agree = (length-take-le _ _ (omega (arith, one, most)), length-take-le _ _ (omega (arith, two, most)), c.longest_record-lent.ensures) }
 
 pub returns : goal.returns
 returns c = let a = c.args in placed a.script.now a.fft_size a.depth_db a.out.now a.at c.if-fft_size-lt1.false c.if-fft_size-gt-MAX_FFT_SIZE.false c.if-script-gt-MAX_SCRIPT_BYTES.false _ c.file.ensures

@@ -14,12 +14,12 @@ overflow_add-bytes c =
     let l = c.loop-after in
     let n = c.next_record-step in
     let s = a.script.now in
-    let top : length s + 1 < 2 ^ 64 = omega (arith, pre.script_len_bound) in
-    let bins : Bins a.logs.now l.scratch = record { some = pre.in_bounds.0; few = pre.in_bounds.1; lawful = pre.in_bounds.2; places = l.invariant.0 ∙ pre.in_bounds.3 } in
+    let top : length s + 1 < 2 ^ 64 = omega (arith, pre.script_fits) in
+    let bins : Bins a.logs.now l.scratch = record { some = pre.logs_lawful.0; few = pre.logs_lawful.1; lawful = pre.logs_lawful.2; places = l.invariant.0 ∙ pre.logs_lawful.3 } in
     let tells = told a.depth_db a.logs.now s top l.walk l.invariant.2.stands l.scratch bins l.lent 0 n.result n.new.scratch n.new.out n.ensures in
     let w = subst (Tells a.depth_db a.logs.now s l.walk n.result.walk l.lent n.new.out 0) c.in-Record.is tells in
-    let most = after_most a.depth_db a.logs.now s l.walk l.bytes l.invariant.2 n.result.walk l.lent n.new.out _ pre.in_bounds.1 w in
-    omega (arith, most, l.invariant.2.most, l.invariant.2.stands.inside, pre.script_len_bound)
+    let most = after_most a.depth_db a.logs.now s l.walk l.bytes l.invariant.2 n.result.walk l.lent n.new.out _ pre.logs_lawful.1 w in
+    omega (arith, most, l.invariant.2.most, l.invariant.2.stands.inside, pre.script_fits)
 
 pub loop-after-smaller : goal.loop-after-smaller
 loop-after-smaller c =
@@ -28,8 +28,8 @@ loop-after-smaller c =
     let l = c.loop-after in
     let n = c.next_record-step in
     let s = a.script.now in
-    let top : length s + 1 < 2 ^ 64 = omega (arith, pre.script_len_bound) in
-    let bins : Bins a.logs.now l.scratch = record { some = pre.in_bounds.0; few = pre.in_bounds.1; lawful = pre.in_bounds.2; places = l.invariant.0 ∙ pre.in_bounds.3 } in
+    let top : length s + 1 < 2 ^ 64 = omega (arith, pre.script_fits) in
+    let bins : Bins a.logs.now l.scratch = record { some = pre.logs_lawful.0; few = pre.logs_lawful.1; lawful = pre.logs_lawful.2; places = l.invariant.0 ∙ pre.logs_lawful.3 } in
     let tells = told a.depth_db a.logs.now s top l.walk l.invariant.2.stands l.scratch bins l.lent 0 n.result n.new.scratch n.new.out n.ensures in
     let w = subst (Tells a.depth_db a.logs.now s l.walk n.result.walk l.lent n.new.out 0) c.in-Record.is tells in
     omega (arith, w.further, w.stands.inside)
@@ -41,13 +41,13 @@ loop-after-preserved c =
     let l = c.loop-after in
     let n = c.next_record-step in
     let s = a.script.now in
-    let top : length s + 1 < 2 ^ 64 = omega (arith, pre.script_len_bound) in
-    let bins : Bins a.logs.now l.scratch = record { some = pre.in_bounds.0; few = pre.in_bounds.1; lawful = pre.in_bounds.2; places = l.invariant.0 ∙ pre.in_bounds.3 } in
+    let top : length s + 1 < 2 ^ 64 = omega (arith, pre.script_fits) in
+    let bins : Bins a.logs.now l.scratch = record { some = pre.logs_lawful.0; few = pre.logs_lawful.1; lawful = pre.logs_lawful.2; places = l.invariant.0 ∙ pre.logs_lawful.3 } in
     let tells = told a.depth_db a.logs.now s top l.walk l.invariant.2.stands l.scratch bins l.lent 0 n.result n.new.scratch n.new.out n.ensures in
     let w = subst (Tells a.depth_db a.logs.now s l.walk n.result.walk l.lent n.new.out 0) c.in-Record.is tells in
     let places : length n.new.scratch ≡ length l.scratch = search rules in
     let same : length n.new.out ≡ length l.lent = search rules in
-    (places ∙ l.invariant.0, same ∙ l.invariant.1, measuring_on a.depth_db a.logs.now s l.walk l.bytes l.invariant.2 n.result.walk l.lent n.new.out _ pre.in_bounds.1 w)
+    (places ∙ l.invariant.0, same ∙ l.invariant.1, measuring_on a.depth_db a.logs.now s l.walk l.bytes l.invariant.2 n.result.walk l.lent n.new.out _ pre.logs_lawful.1 w)
 
 pub returns-in-Refused : goal.returns-in-Refused
 returns-in-Refused c =
@@ -56,11 +56,11 @@ returns-in-Refused c =
     let l = c.loop-after in
     let n = c.next_record-step in
     let s = a.script.now in
-    let top : length s + 1 < 2 ^ 64 = omega (arith, pre.script_len_bound) in
-    let bins : Bins a.logs.now l.scratch = record { some = pre.in_bounds.0; few = pre.in_bounds.1; lawful = pre.in_bounds.2; places = l.invariant.0 ∙ pre.in_bounds.3 } in
+    let top : length s + 1 < 2 ^ 64 = omega (arith, pre.script_fits) in
+    let bins : Bins a.logs.now l.scratch = record { some = pre.logs_lawful.0; few = pre.logs_lawful.1; lawful = pre.logs_lawful.2; places = l.invariant.0 ∙ pre.logs_lawful.3 } in
     let tells = told a.depth_db a.logs.now s top l.walk l.invariant.2.stands l.scratch bins l.lent 0 n.result n.new.scratch n.new.out n.ensures in
     let w = subst (Tells a.depth_db a.logs.now s l.walk n.result.walk l.lent n.new.out 0) c.in-Refused.is tells in
-    measuring_stops a.depth_db a.logs.now s l.walk l.bytes l.invariant.2 (length l.lent) _ _ refl (omega (arith, pre.logs_in_bounds, l.invariant.1)) w
+    measuring_stops a.depth_db a.logs.now s l.walk l.bytes l.invariant.2 (length l.lent) _ _ refl (omega (arith, pre.lent_fits, l.invariant.1)) w
 
 pub returns-in-Last : goal.returns-in-Last
 returns-in-Last c =
@@ -69,8 +69,8 @@ returns-in-Last c =
     let l = c.loop-after in
     let n = c.next_record-step in
     let s = a.script.now in
-    let top : length s + 1 < 2 ^ 64 = omega (arith, pre.script_len_bound) in
-    let bins : Bins a.logs.now l.scratch = record { some = pre.in_bounds.0; few = pre.in_bounds.1; lawful = pre.in_bounds.2; places = l.invariant.0 ∙ pre.in_bounds.3 } in
+    let top : length s + 1 < 2 ^ 64 = omega (arith, pre.script_fits) in
+    let bins : Bins a.logs.now l.scratch = record { some = pre.logs_lawful.0; few = pre.logs_lawful.1; lawful = pre.logs_lawful.2; places = l.invariant.0 ∙ pre.logs_lawful.3 } in
     let tells = told a.depth_db a.logs.now s top l.walk l.invariant.2.stands l.scratch bins l.lent 0 n.result n.new.scratch n.new.out n.ensures in
     let w = subst (Tells a.depth_db a.logs.now s l.walk n.result.walk l.lent n.new.out 0) c.in-Last.is tells in
     measuring_ends a.depth_db a.logs.now s l.walk l.bytes l.invariant.2 _ _ c.bad_of-answer.ensures w.1

@@ -29,7 +29,7 @@ write_records-after-requires c =
     let whole = whole_of a.depth_db a.logs.now a.script.now in
     let fits = room whole m.result m.ensures a.out.now a.at (omega (arith, c.if-out-at-2.false, c.if-out-at.false)) in
     let places : length m.new.scratch ≡ length a.scratch.now = search rules in
-    record { script_len_bound = pre.script_len_bound; in_bounds = (pre.in_bounds.0, pre.in_bounds.1, pre.in_bounds.2, places ∙ pre.in_bounds.3); script_value = (ended_so whole m.result m.ensures a.out.now a.at A.Taken c.in-Taken.is, fits) }
+    record { script_fits = pre.script_fits; logs_lawful = (pre.logs_lawful.0, pre.logs_lawful.1, pre.logs_lawful.2, places ∙ pre.logs_lawful.3); taken_with_room = (ended_so whole m.result m.ensures a.out.now a.at A.Taken c.in-Taken.is, fits) }
 
 pub returns-in-Refused : goal.returns-in-Refused
 returns-in-Refused c =
