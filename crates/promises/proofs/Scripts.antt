@@ -25,7 +25,7 @@ use Rattle.engine_sources.specs.Slots.{set_source_of, retire_source_of, release_
 use Rattle.engine_triggers.specs.Triggers.{triggered_of, triggered_by}
 use Rattle.engine.specs.Advance.{advanced_of}
 use Rattle.frame.specs.declared.Framed.{Framed}
-use Rattle.frame.specs.Call.{framed_of as takeFrameOf}
+use Rattle.frame.specs.Call.{framed_of as take_frame_of}
 use Rattle.big_endian.specs.Numbers.{be32, be64, f32_at}
 use Rattle.script.specs.Table.{field_of}
 use Rattle.script.specs.declared.fields.Field.{Field}
@@ -92,7 +92,7 @@ step_engine before (F.Release s) = done_engine before (release_source_of before.
 step_engine before (F.Trigger s) = fired_engine before (triggered_of before.engine s)
 step_engine before (F.Seek x) = refl
 step_engine before (F.Advance n) = done_engine before (advanced_of before.engine n)
-step_engine before (F.Frame b x) = framed_engine before (takeFrameOf before.engine b x)
+step_engine before (F.Frame b x) = framed_engine before (take_frame_of before.engine b x)
 step_engine before (F.NoteInput b) = refl
 step_engine before F.Reset = refl
 step_engine before F.Reserve = refl

@@ -20,7 +20,7 @@ use Rattle.engine_changes.specs.Changes.{configured_of}
 use Rattle.engine_sources.specs.Slots.{set_source_of, retire_source_of, release_source_of}
 use Rattle.engine.specs.Advance.{advanced_of}
 use Rattle.frame.specs.declared.Framed.{Framed}
-use Rattle.frame.specs.Call.{framed_of as takeFrameOf}
+use Rattle.frame.specs.Call.{framed_of as take_frame_of}
 use Rattle.script.specs.declared.fields.Field.{Field}
 use Rattle.script.specs.declared.fields.Field.TheVariants as F
 use Rattle.script.specs.declared.Read.{Read}
@@ -87,7 +87,7 @@ step-says before (F.Release s) = done-says before (release_source_of before.engi
 step-says before (F.Trigger s) = fired-says before (triggered_of before.engine s)
 step-says before (F.Seek x) = tt
 step-says before (F.Advance n) = done-says before (advanced_of before.engine n)
-step-says before (F.Frame b x) = framed_says before (takeFrameOf before.engine b x)
+step-says before (F.Frame b x) = framed_says before (take_frame_of before.engine b x)
 step-says before (F.NoteInput b) = tt
 step-says before F.Reset = tt
 step-says before F.Reserve = tt

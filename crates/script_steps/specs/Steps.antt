@@ -21,7 +21,7 @@ use Rattle.engine.specs.Advance.{advanced_of}
 use Rattle.engine_triggers.specs.Triggers.{triggered_of, reserved_of, triggered_by}
 use Rattle.script_steps.specs.Values.{values_of}
 use Rattle.frame.specs.declared.Framed.{Framed}
-use Rattle.frame.specs.Call.{framed_of as takeFrameOf}
+use Rattle.frame.specs.Call.{framed_of as take_frame_of}
 use Rattle.script_steps.specs.declared.Run.{Run}
 use Rattle.script_steps.specs.declared.Reply.TheVariants as R
 use Rattle.script_steps.specs.declared.Stepped.{Stepped}
@@ -79,7 +79,7 @@ step_of run (F.Release s) = done_of run (release_source_of run.engine s)
 step_of run (F.Trigger s) = fired_of run (triggered_of run.engine s)
 step_of run (F.Seek x) = quiet_step run (sought_of run.engine x)
 step_of run (F.Advance n) = done_of run (advanced_of run.engine n)
-step_of run (F.Frame b x) = framed_step run (takeFrameOf run.engine b x)
+step_of run (F.Frame b x) = framed_step run (take_frame_of run.engine b x)
 step_of run (F.NoteInput b) = quiet_step run (notes_of run.engine b)
 step_of run F.Reset = quiet_step run (reset_of run.engine)
 step_of run F.Reserve = quiet_step run (reserved_of run.engine).engine

@@ -1,3 +1,4 @@
+-- What the loop of `taken` keeps, and the measure by which it ends.
 use Rattle.std.proofs.Common.{◌-◌, ◌≤◌}
 use Rattle.sequences.specs.Walk.{Walked, counting}
 use Rattle.pool.specs.Pool.{free_particle}

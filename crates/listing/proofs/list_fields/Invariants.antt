@@ -1,3 +1,4 @@
+-- What the loop of `list_fields` keeps, and the measure by which it ends.
 use Rattle.std.proofs.Common.{◌≡◌, ◌+◌, ◌-◌, ◌<◌, ◌≤◌, length}
 use Rattle.listing.specs.Printed.{text_from}
 use Rattle.listing.proofs.Laws.{Goes}

@@ -1,3 +1,4 @@
+-- What the loop of `digits` keeps, and the measure by which it ends.
 use Rattle.std.proofs.Common.{◌≡◌, ◌-◌, ◌≤◌, length, drop}
 use Rattle.masks.specs.Digits.{number_from}
 use Rattle.masks.proofs.digits.Given as goal

@@ -1,3 +1,4 @@
+-- What the loop of `write_masks` keeps, and the measure by which it ends.
 use Rattle.std.proofs.Common.{◌≡◌, ◌-◌, ◌≤◌, length}
 use Rattle.masks.proofs.write_masks.Given as goal
 

@@ -1,3 +1,4 @@
+-- What the loop of `weights_of` keeps, and the measure by which it ends.
 use Rattle.std.proofs.Common.{◌-◌}
 use Rattle.sequences.specs.Table.{Filled}
 use Rattle.oracle_probe.specs.Numbers.{weight_from}

@@ -1,3 +1,4 @@
+-- What the loop of `retire_bound` keeps, and the measure by which it ends.
 use Prim.Native.Nat.{◌-◌}
 use Rattle.sequences.specs.Upto.{Mapped}
 use Rattle.pool.specs.Pool.{retire_bound_one}

@@ -1,3 +1,4 @@
+-- What the loop of `retune` keeps, and the measure by which it ends.
 use Prim.Native.Nat.{◌-◌}
 use Rattle.sequences.specs.Upto.{Mapped}
 use Rattle.pool.specs.Pool.{retune_one}

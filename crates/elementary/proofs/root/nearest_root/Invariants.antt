@@ -1,3 +1,4 @@
+-- What the loops of `nearest_root` keep, and the measures by which they end.
 use Prim.Native.Nat.{◌-◌, ◌*◌, ◌≤◌, ◌<◌}
 use Rattle.elementary.proofs.root.nearest_root.Given as goal
 

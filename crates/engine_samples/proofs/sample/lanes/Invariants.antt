@@ -1,3 +1,4 @@
+-- What the loop of `lanes` keeps, and the measure by which it ends.
 use Rattle.std.proofs.Common.{◌≡◌, ◌-◌, ◌≤◌}
 use Rattle.sequences.specs.Times.{times}
 use Rattle.engine_samples.proofs.Tries.{try}

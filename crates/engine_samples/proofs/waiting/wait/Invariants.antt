@@ -1,3 +1,4 @@
+-- What the loop of `wait` keeps, and the measure by which it ends.
 use Rattle.std.proofs.Common.{◌-◌, T}
 use lib.Ieee.{binary64, fits}
 use Rattle.engine_samples.specs.Waiting.{Underway, clock_of}

@@ -1,3 +1,4 @@
+-- What the loop of `wait_at_rest` keeps, and the measure by which it ends.
 use Rattle.engine_samples.specs.Waiting.{Underway, clock_of}
 use Rattle.engine_samples.specs.Sample.{glided_of}
 use Rattle.std.proofs.Common.{◌≡◌, ◌-◌}

@@ -1,3 +1,4 @@
+-- What the loop of `wait_gliding` keeps, and the measure by which it ends.
 use Rattle.engine_samples.specs.Waiting.{Underway, clock_of}
 use Rattle.std.proofs.Common.{◌-◌}
 use Rattle.engine_samples.proofs.waiting.wait_gliding.Given as goal

@@ -1,3 +1,4 @@
+-- What the loop of `scaled_rem` keeps, and the measure by which it ends.
 use Rattle.std.proofs.Common.{◌≡◌, ◌*◌, ◌%◌, ◌^◌, ◌<◌}
 use Rattle.floats.proofs.modulo.scaled_rem.Given as goal
 

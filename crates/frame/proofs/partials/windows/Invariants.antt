@@ -1,3 +1,4 @@
+-- What the loops of `windows` keep, and the measures by which they end.
 use Rattle.std.proofs.Common.{◌+◌, ◌-◌, ◌*◌, ◌≤◌}
 use Rattle.windows.specs.Opening.{empty_window}
 use Rattle.frame.specs.Windows.{window_at}

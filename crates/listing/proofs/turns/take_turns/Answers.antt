@@ -44,10 +44,10 @@ turned : (c : After-replied-said)
     → left c.match-field.engine c.match-field.frame c.match-field.reply ≡ step_of (record { engine = c.loop-field.engine; frame = c.loop-field.frame }) c.in-Field.field
     → told_of (record { engine = c.match-field.engine; frame = c.match-field.frame }) c.replied-said.result.line c.replied-said.result.taken
     ≡ turn_of (record { engine = c.loop-field.engine; frame = c.loop-field.frame }) c.loop-field.n c.loop-field.at c.args.script.now
-turned c stepped =
+turned c step =
     let at = c.loop-field.at in
     let s = c.args.script.now in
-    turn_of_lem _ _ at s _ (rw (rest at s) at c.read_field-read.ensures) _ _ _ _ _ _ c.in-Field.is stepped c.replied-said.ensures
+    turn_of_lem _ _ at s _ (rw (rest at s) at c.read_field-read.ensures) _ _ _ _ _ _ c.in-Field.is step c.replied-said.ensures
 
 pub loop-field-init : goal.loop-field-init
 loop-field-init c = let a = c.args in going_start a.until a.script.now a.run a.n a.at c.requires

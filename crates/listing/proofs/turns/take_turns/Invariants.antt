@@ -1,3 +1,4 @@
+-- What the loop of `take_turns` keeps, and the measure by which it ends.
 use Rattle.std.proofs.Common.{◌-◌, length}
 use Rattle.listing.proofs.Going.{Going}
 use Rattle.listing.proofs.turns.take_turns.Given as goal

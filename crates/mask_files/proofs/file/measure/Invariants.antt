@@ -1,3 +1,4 @@
+-- What the loop of `measure` keeps, and the measure by which it ends.
 use Rattle.std.proofs.Common.{◌≡◌, ◌-◌, length}
 use Rattle.mask_files.proofs.Passes.{Measuring}
 use Rattle.mask_files.proofs.file.measure.Given as goal

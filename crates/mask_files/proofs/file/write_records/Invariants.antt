@@ -1,3 +1,4 @@
+-- What the loop of `write_records` keeps, and the measure by which it ends.
 use Rattle.std.proofs.Common.{◌≡◌, ◌-◌, length}
 use Rattle.mask_files.proofs.Passes.{Writing}
 use Rattle.mask_files.proofs.file.write_records.Given as goal

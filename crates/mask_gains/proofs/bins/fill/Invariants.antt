@@ -1,3 +1,4 @@
+-- What the loop of `fill` keeps, and the measure by which it ends.
 use Prim.Native.Nat.{◌-◌}
 use lib.ListN.{length}
 use Rattle.sequences.specs.Table.{Filled}

@@ -1,3 +1,4 @@
+-- What the loop of `finish` keeps, and the measure by which it ends.
 use Prim.Native.Nat.{ℕ, ◌-◌}
 use lib.ListN.{length, get_or}
 use lib.Ieee.{nan}

@@ -1,3 +1,4 @@
+-- What the loop of `lawful` keeps, and the measure by which it ends.
 use Prim.Native.Nat.{◌-◌, ◌≤◌}
 use mathlib.Core.Path.{◌≡◌}
 use lib.ListN.{length}

@@ -1,3 +1,4 @@
+-- What the loop of `clear` keeps, and the measure by which it ends.
 use Prim.Native.Nat.{ℕ, ◌-◌}
 use lib.ListN.{length}
 use Rattle.floats.specs.Names.{zero32}

@@ -1,3 +1,4 @@
+-- What the loop of `raise` keeps, and the measure by which it ends.
 use Prim.Native.Nat.{◌-◌, ◌≤◌}
 use Rattle.mask_gains.specs.Walk.{Part}
 use Rattle.mask_gains.proofs.touch.raise.Given as goal

@@ -1,3 +1,4 @@
+-- What the loop of `walk` keeps, and the measure by which it ends.
 use Prim.Native.Nat.{◌-◌}
 use Rattle.mask_gains.specs.Walk.{Numbers}
 use Rattle.mask_gains.proofs.Opens.{Opened}

@@ -1,3 +1,4 @@
+-- What the loop of `all_numbers` keeps, and the measure by which it ends.
 use lib.ListN.{length, get_or}
 use lib.Ieee.{nan}
 use Rattle.sequences.specs.All.{all}

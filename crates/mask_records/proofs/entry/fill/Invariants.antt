@@ -1,3 +1,4 @@
+-- What the loop of `fill` keeps, and the measure by which it ends.
 use lib.ListN.{length, get_or}
 use lib.Ieee.{nan}
 use Rattle.sequences.specs.Table.{Filled}

@@ -1,3 +1,4 @@
+-- What the loop of `put_pairs` keeps, and the measure by which it ends.
 use lib.ListN.{length}
 use lib.Seq.{paste}
 use Rattle.mask_records.specs.Bytes.{pairs_of}

@@ -1,3 +1,4 @@
+-- What the loop of `all_entries` keeps, and the measure by which it ends.
 use Rattle.sequences.specs.All.{all}
 use Rattle.mask_records.specs.Decibels.{is_entry}
 use Rattle.mask_records.specs.Found.{entry_in}

@@ -1,3 +1,4 @@
+-- What the loop of `hand_out` keeps, and the measure by which it ends.
 use lib.ListN.{length}
 use Rattle.sequences.specs.Table.{Filled}
 use Rattle.mask_records.specs.Found.{entry_in}

@@ -1,3 +1,4 @@
+-- What the loop of `is_entry` keeps, and the measure by which it ends.
 use Rattle.mask_records.proofs.Sought.{Sought}
 use Rattle.mask_records.proofs.search.is_entry.Given as goal
 

@@ -1,3 +1,4 @@
+-- What the loop of `rk_probe_active_counts` keeps, and the measure by which it ends.
 use Rattle.std.proofs.Common.{◌≡◌, ◌-◌, ◌≤◌}
 use Rattle.sequences.specs.Times.{iterate}
 use Rattle.oracle_probe.specs.Counts.{sounding, fired, asked_of}

@@ -1,3 +1,4 @@
+-- What the loop of `put_harmonics` keeps, and the measure by which it ends.
 use Prim.Native.Nat.{◌-◌}
 use lib.ListN.{get_or}
 use lib.Ieee.{nan}

@@ -1,3 +1,4 @@
+-- What the loop of `sum` keeps, and the measure by which it ends.
 use mathlib.Core.Path.{◌≡◌}
 use Prim.Native.Nat.{◌+◌, ◌-◌, ◌*◌, ◌≤◌}
 use lib.ListN.{length, drop}

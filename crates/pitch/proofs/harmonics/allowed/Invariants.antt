@@ -1,3 +1,4 @@
+-- What the loop of `allowed` keeps, and the measure by which it ends.
 use Rattle.std.proofs.Common.{ℕ, ◌-◌, get_or}
 use lib.Ieee.{nan}
 use Rattle.sequences.specs.Table.{Filled}

@@ -1,3 +1,4 @@
+-- What the loop of `drawn` keeps, and the measure by which it ends.
 use Rattle.std.proofs.Common.{◌-◌}
 use Rattle.pitch.proofs.Turns.{Drawn}
 use Rattle.pitch.proofs.harmonics.drawn.Given as goal

@@ -1,3 +1,4 @@
+-- What the loop of `harmonic` keeps, and the measure by which it ends.
 use Rattle.std.proofs.Common.{◌-◌}
 use Rattle.sequences.specs.Rest.{Rest}
 use Rattle.pitch.specs.Partials.{harmonic_from}

@@ -1,3 +1,4 @@
+-- What the loop of `sum` keeps, and the measure by which it ends.
 use Rattle.std.proofs.Common.{ℕ, ◌-◌}
 use Rattle.floats.specs.Names.{add32, minus_zero32}
 use lib.Ieee.{Float}

@@ -1,3 +1,4 @@
+-- What the loop of `chosen` keeps, and the measure by which it ends.
 use Rattle.std.proofs.Common.{◌-◌}
 use Rattle.pitch.proofs.Walks.{Chosen}
 use Rattle.pitch.specs.Octave.{weight_of, last_octave}

@@ -1,3 +1,4 @@
+-- What the loop of `total` keeps, and the measure by which it ends.
 use Rattle.std.proofs.Common.{◌≡◌, ◌-◌, ◌≤◌}
 use Rattle.floats.specs.Names.{add32, minus_zero32}
 use Rattle.sequences.specs.Times.{times}

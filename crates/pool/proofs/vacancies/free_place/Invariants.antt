@@ -1,3 +1,4 @@
+-- What the loop of `free_place` keeps, and the measure by which it ends.
 use Prim.Native.Nat.{◌-◌}
 use Rattle.sequences.specs.First.{Sought}
 use Rattle.pool.specs.Vacancies.{is_free}

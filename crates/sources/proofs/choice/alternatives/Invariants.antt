@@ -1,3 +1,4 @@
+-- What the loop of `alternatives` keeps, and the measure by which it ends.
 use Prim.Native.Nat.{◌≤◌, ◌-◌}
 use Rattle.sequences.specs.Walk.{Walked, counting}
 use Rattle.sources.specs.Choosing.{is_alternative}

@@ -1,3 +1,4 @@
+-- What the loop of `nth` keeps, and the measure by which it ends.
 use Prim.Native.Nat.{◌-◌}
 use Rattle.sequences.specs.Rest.{Rest}
 use Rattle.sources.specs.Choosing.{nth_from}

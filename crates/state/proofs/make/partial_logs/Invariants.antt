@@ -1,3 +1,4 @@
+-- What the loop of `partial_logs` keeps, and the measure by which it ends.
 use Rattle.std.proofs.Common.{◌+◌, ◌-◌, pos}
 use Rattle.sequences.specs.Table.{Filled}
 use lib.Ieee.{binary32, of_int}

@@ -1,3 +1,4 @@
+-- What the loop of `weights` keeps, and the measure by which it ends.
 use Rattle.std.proofs.Common.{◌-◌, get_or}
 use Rattle.sequences.specs.Table.{Filled}
 use lib.Ieee.{neg, nan}

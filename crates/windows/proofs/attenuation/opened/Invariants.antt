@@ -1,3 +1,4 @@
+-- What the loop of `opened` keeps, and the measure by which it ends.
 use Prim.Native.Nat.{◌-◌}
 use Rattle.sequences.specs.Walk.{Walked}
 use Rattle.floats.specs.Names.{zero32}
