@@ -1,9 +1,7 @@
 -- The numbers of the refusals, 01's and behind them 02's, and of an answer. Definitions only.
-use Rattle.std.specs.Prelude.{ℕ}
+use Rattle.std.specs.Prelude.{ℕ, Result, Ok, Err}
 use Rattle.refusals.specs.declared.Refusal.{Refusal}
 use Rattle.refusals.specs.declared.Refusal.TheVariants.{Rate, Slot, Size, Elapsed, Lengths, Logs, Seconds, Tag, Value, Place, Script, Room, HeaderCut, WrongLength, ValueCut, Attenuation, Record}
-use Rattle.refusals.specs.declared.Answer.{Answer}
-use Rattle.refusals.specs.declared.Answer.TheVariants.{Taken, Refused}
 
 abbrev pub number_of : Refusal → ℕ
 -- the rate is not finite, or outside 8,000 to 384,000
@@ -41,6 +39,10 @@ number_of Attenuation = 18
 -- 02, order 5: a bin count outside 1 to 8,193, or bytes that are no record of a mask file
 number_of Record = 19
 
+-- what a call answers that gives nothing back
+abbrev pub Answer : Type 0
+Answer = Result Unit Refusal
+
 abbrev pub answer_of : Answer → ℕ
-answer_of Taken = 0
-answer_of (Refused r) = number_of r
+answer_of (Ok _) = 0
+answer_of (Err r) = number_of r

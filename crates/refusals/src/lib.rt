@@ -1,10 +1,10 @@
-// What a call answers, and the numbers of the refusals: 01's ("Refusal numbers"), and behind them 02's.
+// Why a call refuses, and the numbers of the refusals: 01's ("Refusal numbers"), and behind them 02's.
 #![tactic(auto)]
 
 ghost use Rattle.std.specs.Prelude.{◌≡◌};
 ghost use Rattle.refusals.specs.Numbers.{number_of, answer_of};
 
-#[derive(Clone, Copy)]
+#[derive(Clone, Copy, PartialEq, Eq)]
 pub enum Refusal {
     Rate,
     Slot,
@@ -25,42 +25,38 @@ pub enum Refusal {
     Record,
 }
 
-#[derive(Clone, Copy)]
-pub enum Answer {
-    Taken,
-    Refused(Refusal),
-}
+impl From<Refusal> for u64 {
+    ghost from_gives = { λ r n. n ≡ number_of r };
 
-pub fn number(r: Refusal) -> u64
-    ensures { result ≡ number_of r }
-{
-    match r {
-        Refusal::Rate => 1,
-        Refusal::Slot => 2,
-        Refusal::Size => 3,
-        Refusal::Elapsed => 4,
-        Refusal::Lengths => 5,
-        Refusal::Logs => 6,
-        Refusal::Seconds => 7,
-        Refusal::Tag => 8,
-        Refusal::Value => 10,
-        Refusal::Place => 11,
-        Refusal::Script => 12,
-        Refusal::Room => 13,
-        Refusal::HeaderCut => 14,
-        Refusal::WrongLength => 15,
-        Refusal::ValueCut => 16,
-        Refusal::Attenuation => 18,
-        Refusal::Record => 19,
+    fn from(refusal: Refusal) -> u64 {
+        match refusal {
+            Refusal::Rate => 1,
+            Refusal::Slot => 2,
+            Refusal::Size => 3,
+            Refusal::Elapsed => 4,
+            Refusal::Lengths => 5,
+            Refusal::Logs => 6,
+            Refusal::Seconds => 7,
+            Refusal::Tag => 8,
+            Refusal::Value => 10,
+            Refusal::Place => 11,
+            Refusal::Script => 12,
+            Refusal::Room => 13,
+            Refusal::HeaderCut => 14,
+            Refusal::WrongLength => 15,
+            Refusal::ValueCut => 16,
+            Refusal::Attenuation => 18,
+            Refusal::Record => 19,
+        }
     }
 }
 
 // 0 for what is taken.
-pub fn answer_number(a: Answer) -> u64
-    ensures { result ≡ answer_of a }
+pub fn answer_number(answer: Result<(), Refusal>) -> u64
+    ensures { result ≡ answer_of answer }
 {
-    match a {
-        Answer::Taken => 0,
-        Answer::Refused(r) => number(r),
+    match answer {
+        Ok(()) => 0,
+        Err(refusal) => u64::from(refusal),
     }
 }
