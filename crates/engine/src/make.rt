@@ -2,7 +2,7 @@
 ghost use Rattle.std.specs.Prelude.{◌≡◌};
 ghost use Rattle.engine.specs.New.{new_engine_of, reset_of};
 
-use refusals::{Answer, Refusal};
+use refusals::Refusal;
 use state::{Done, Engine};
 
 pub fn new_engine(sample_rate: f32) -> Done
@@ -10,12 +10,12 @@ pub fn new_engine(sample_rate: f32) -> Done
 {
     if settings::lawful_rate(sample_rate) {
         return Done {
-            answer: Answer::Taken,
+            answer: Ok(()),
             engine: state::from_prepared(state::prepare(sample_rate)),
         };
     }
     Done {
-        answer: Answer::Refused(Refusal::Rate),
+        answer: Err(Refusal::Rate),
         engine: state::from_prepared(state::prepare(48000.0)),
     }
 }

@@ -2,7 +2,7 @@
 ghost use Rattle.std.specs.Prelude.{◌≡◌};
 ghost use Rattle.engine.specs.Advance.{advanced_of};
 
-use refusals::{Answer, Refusal};
+use refusals::Refusal;
 use settings::Shape;
 use state::{Done, Engine};
 
@@ -11,13 +11,13 @@ pub fn advance(engine: Engine, samples: u64) -> Done
 {
     if samples > crate::MAX_ELAPSED_SAMPLES {
         return Done {
-            answer: Answer::Refused(Refusal::Elapsed),
+            answer: Err(Refusal::Elapsed),
             engine,
         };
     }
     if engine.clock.sample > crate::MAX_ELAPSED_SAMPLES - samples {
         return Done {
-            answer: Answer::Refused(Refusal::Elapsed),
+            answer: Err(Refusal::Elapsed),
             engine,
         };
     }
@@ -39,7 +39,7 @@ pub fn advance(engine: Engine, samples: u64) -> Done
         i = i + waited.count;
         if i == samples {
             return Done {
-                answer: Answer::Taken,
+                answer: Ok(()),
                 engine: out,
             };
         }

@@ -1,5 +1,5 @@
 -- The calls that change settings, the note input and the place in the film, line by line as the Rust has them; refusals as 01 adds them. Definitions only.
-use Rattle.std.specs.Prelude.{ℕ, Bool, true, false, not, List, [], ◌∷◌, map, ◌==◌, slice_index_or, Float}
+use Rattle.std.specs.Prelude.{ℕ, Bool, true, false, not, List, [], ◌∷◌, map, ◌==◌, slice_index_or, Float, None, Ok, Err}
 use Rattle.std.specs.Float.{binary64}
 use Rattle.std.specs.Float.Ieee.{to_unsigned, le, eq}
 use Rattle.std.specs.Float.Ieee.Scale.{finite}
@@ -9,8 +9,7 @@ use Rattle.floats.specs.Names.{f64}
 use Rattle.floats.specs.Remainder.{rem_euclid}
 use Rattle.floats.specs.Whole.{floor}
 use Rattle.pool.specs.Pool.{retire_one}
-use Rattle.refusals.specs.declared.Answer.{Answer}
-use Rattle.refusals.specs.declared.Answer.TheVariants.{Taken, Refused}
+use Rattle.refusals.specs.Numbers.{Answer}
 use Rattle.settings.specs.declared.Config.{Config}
 use Rattle.settings.specs.declared.Shape.{Shape}
 use Rattle.settings.specs.declared.Shape.TheVariants.{Sprinkle, Cloud}
@@ -80,8 +79,8 @@ unfoldable pub configured_to : Engine → Config → Engine
 configured_to e c = restarted (with_config (offset (switched (reweighed e c) c) c.phase) c) e.config
 
 abbrev pub answered_by : Answer → Engine → Config → Done
-answered_by Taken e c = taken (configured_to e (mended_of c))
-answered_by (Refused r) e c = refused r e
+answered_by (Ok tt) e c = taken (configured_to e (mended_of c))
+answered_by (Err r) e c = refused r e
 
 unfoldable pub configured_of : Engine → Config → Done
 configured_of e c = answered_by (checked_of c) e c

@@ -6,7 +6,6 @@ ghost use Rattle.sources.specs.Sources.{same_flag};
 ghost use Rattle.state.specs.State.{with_config};
 ghost use Rattle.engine_changes.specs.Changes.{same_shape, retired_all, aligned, reweighed, same_kind, switched, offset, enters, prepared_all, restarted, configured_to, configured_of, notes_of, sought_phase, sought_opportunity, sought_of};
 
-use refusals::Answer;
 use settings::{Config, Shape, is_sprinkle};
 use state::{Clock, Done, Engine, Next};
 use timing::{SPRINKLE_STREAMS, SprinkleStream};
@@ -170,8 +169,8 @@ pub fn configure(engine: Engine, config: Config) -> Done
 {
     let checked = settings::checked(config);
     match checked {
-        Answer::Taken => state::take(configured(engine, settings::mended(config))),
-        Answer::Refused(refusal) => state::refuse(engine, refusal),
+        Ok(()) => state::take(configured(engine, settings::mended(config))),
+        Err(refusal) => state::refuse(engine, refusal),
     }
 }
 

@@ -15,7 +15,7 @@ use Rattle.sequences.specs.Pick.{either}
 use Rattle.sequences.specs.Times.{iterate}
 use Rattle.floats_laws.proofs.Rising.{nought}
 use Rattle.pool.specs.Pool.{retire_bound_one, retune_one}
-use Rattle.refusals.specs.declared.Answer.{Answer}
+use Rattle.refusals.specs.Numbers.{Answer}
 use Rattle.settings.specs.declared.Config.{Config}
 use Rattle.settings.specs.declared.Shape.{Shape}
 use Rattle.settings.specs.declared.Shape.TheVariants.{Sprinkle, Cloud}

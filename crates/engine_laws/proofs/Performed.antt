@@ -1,4 +1,5 @@
 -- The acts of a call, performed one after the other, lead where its contract says.
+use Rattle.std.specs.Prelude.{Ok, Err}
 use Prim.Native.Nat.{ℕ, zero, suc, ◌^◌}
 use mathlib.Core.Path.{◌≡◌, refl, ap, ◌∙◌}
 use mathlib.Core.Bool.{Bool, true, false}
@@ -8,8 +9,7 @@ use lib.Dec.{ltb}
 use lib.Ieee.{Float}
 use Rattle.sequences.specs.Pick.{pick, either}
 use Rattle.sequences.specs.Times.{iterate}
-use Rattle.refusals.specs.declared.Answer.{Answer}
-use Rattle.refusals.specs.declared.Answer.TheVariants.{Taken, Refused}
+use Rattle.refusals.specs.Numbers.{Answer}
 use Rattle.settings.specs.declared.Config.{Config}
 use Rattle.settings.specs.declared.Shape.{Shape}
 use Rattle.settings.specs.declared.Shape.TheVariants.{Sprinkle, Cloud}
@@ -113,8 +113,8 @@ configure-done e c =
 
 checked-done : (a : Answer) (e : Engine) (c : Config) → perform e (checked_acts a e c) ≡ (answered_by a e c).engine
 unfolding perform
-checked-done Taken e c = configure-done e (mended_of c)
-checked-done (Refused r) e c = refl
+checked-done (Ok tt) e c = configure-done e (mended_of c)
+checked-done (Err r) e c = refl
 
 -- ---- triggers
 abbrev after : Triggered → Engine

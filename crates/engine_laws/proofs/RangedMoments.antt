@@ -10,7 +10,7 @@ use lib.Ieee.{Float, lt, le}
 use Rattle.sequences.specs.Pick.{either}
 use Rattle.sequences.specs.Every.{Every, in_case}
 use Rattle.sequences.specs.Times.{iterate}
-use Rattle.refusals.specs.declared.Answer.{Answer}
+use Rattle.refusals.specs.Numbers.{Answer}
 use Rattle.settings.specs.declared.Config.{Config}
 use Rattle.settings.specs.declared.Shape.{Shape}
 use Rattle.settings.specs.declared.Shape.TheVariants.{Sprinkle, Cloud}

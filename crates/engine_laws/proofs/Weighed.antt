@@ -11,7 +11,7 @@ use Rattle.sequences.specs.Pick.{either}
 use Rattle.sequences.specs.Every.{in_case}
 use Rattle.sequences.specs.Times.{iterate}
 use Rattle.floats.specs.Names.{f32, zero32}
-use Rattle.refusals.specs.declared.Answer.{Answer}
+use Rattle.refusals.specs.Numbers.{Answer}
 use Rattle.settings.specs.declared.Config.{Config}
 use Rattle.settings.specs.Settings.{max_hop, checked_of}
 use Rattle.settings.specs.Mending.{mended_of}

@@ -1,6 +1,6 @@
 -- The calls as acts: what a call does, one step after the other, so that every moment of a run has a name, between two births of one sample too.
 -- A refused call has no acts, but for a trigger on a missing slot, which still uses up its index. Definitions only.
-use Rattle.std.specs.Prelude.{ℕ, zero, suc, ◌+◌, ◌^◌, Bool, List, [], ◌∷◌, ◌++◌, map, eqb, leb, ltb, get_or, set, Float}
+use Rattle.std.specs.Prelude.{ℕ, zero, suc, ◌+◌, ◌^◌, Bool, List, [], ◌∷◌, ◌++◌, map, eqb, leb, ltb, get_or, set, Float, Ok, Err}
 use Rattle.std.specs.Int.Bits.{bit_xor}
 use Rattle.std.specs.Float.Ieee.{lt, le, eq}
 use Rattle.floats.specs.Names.{Single, Double}
@@ -9,8 +9,7 @@ use Rattle.sequences.specs.Pick.{pick}
 use Rattle.sequences.specs.Times.{iterate}
 use Rattle.draws.specs.Draws.{key_of}
 use Rattle.pool.specs.Pool.{retire_bound_one, retune_one}
-use Rattle.refusals.specs.declared.Answer.{Answer}
-use Rattle.refusals.specs.declared.Answer.TheVariants.{Taken, Refused}
+use Rattle.refusals.specs.Numbers.{Answer}
 use Rattle.settings.specs.declared.Config.{Config}
 use Rattle.settings.specs.declared.Shape.{Shape}
 use Rattle.settings.specs.declared.Shape.TheVariants.{Sprinkle, Cloud}
@@ -129,8 +128,8 @@ configure_acts e c =
     weigh_acts e c ++ (switch_acts weighed c ++ (offset_acts kind c.phase ++ (settings c ∷ restart_acts (with_config moved c) e.config)))
 
 abbrev pub checked_acts : Answer → Engine → Config → List Act
-checked_acts Taken e c = configure_acts e (mended_of c)
-checked_acts (Refused r) e c = []
+checked_acts (Ok tt) e c = configure_acts e (mended_of c)
+checked_acts (Err r) e c = []
 
 -- ---- triggers
 unfoldable pub trigger_acts : Engine → ℕ → ℕ → List Act

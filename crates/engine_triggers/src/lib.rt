@@ -10,19 +10,18 @@ use settings::Config;
 use sources::Source;
 use state::Engine;
 
-// What a trigger comes to.
+// What a trigger comes to where it is not refused.
 #[derive(Clone, Copy)]
 pub enum Outcome {
     Born,
     NotEligible,
     Dropped,
-    Refused(Refusal),
 }
 
 #[derive(Clone, Copy)]
 pub struct Triggered {
     pub engine: Engine,
-    pub outcome: Outcome,
+    pub outcome: Result<Outcome, Refusal>,
 }
 
 #[derive(Clone, Copy)]
@@ -59,13 +58,13 @@ fn permitted(config: Config, source: Source) -> bool
 }
 
 // A birth that was dropped has made `dropped` grow.
-fn became(before: u64, after: u64) -> Outcome
+fn became(before: u64, after: u64) -> Result<Outcome, Refusal>
     ensures { result ≡ became_of before after }
 {
     if after == before {
-        return Outcome::Born;
+        return Ok(Outcome::Born);
     }
-    Outcome::Dropped
+    Ok(Outcome::Dropped)
 }
 
 // A trigger by its index, which leaves `after` as the next one. It has one way out, on which the engine
@@ -75,11 +74,11 @@ fn fire(engine: Engine, slot: usize, index: u64, after: u64) -> Triggered
 {
     let mut out = engine;
     out.next.immediate_index = after;
-    let mut outcome = Outcome::Refused(Refusal::Slot);
+    let mut outcome = Err(Refusal::Slot);
     if slot < sources::MAX_SOURCES {
         let config = out.config;
         let source = out.sources[slot];
-        outcome = Outcome::NotEligible;
+        outcome = Ok(Outcome::NotEligible);
         if permitted(config, source) {
             let arrival = births::birth(out, index ^ 9223372036854775808, slot);
             let particle = arrival.particle;

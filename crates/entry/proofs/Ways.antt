@@ -1,12 +1,12 @@
 -- The ways out of the entry.
+use Rattle.std.specs.Prelude.{Err}
 use Prim.Native.Nat.{ℕ}
 use mathlib.Core.Path.{◌≡◌}
 use mathlib.Core.List.{List}
 use lib.ListN.{length}
 use borrow.Author.Tests.{eq-eqb, ne_eqb}
 use Rattle.sequences.specs.Pick.{pick}
-use Rattle.refusals.specs.declared.Answer.{Answer}
-use Rattle.refusals.specs.declared.Answer.TheVariants.{Refused}
+use Rattle.refusals.specs.Numbers.{Answer}
 use Rattle.refusals.specs.declared.Refusal.TheVariants.{Lengths}
 use Rattle.listing.specs.declared.ending.Ended.{Ended}
 use Rattle.listing.specs.Ended.{ran_of}
@@ -14,7 +14,7 @@ use Rattle.entry.specs.Entry.{frame_bytes, if_taken, entry_answer, entry_bytes}
 
 module _ (s o : List ℕ) where
   -- a lent length that is not a frame's
-  pub lengths : (length o ≡ 2308 → ⊥) → (Refused Lengths ≡ entry_answer s o) × (o ≡ entry_bytes s o)
+  pub lengths : (length o ≡ 2308 → ⊥) → (Err Lengths ≡ entry_answer s o) × (o ≡ entry_bytes s o)
   unfolding entry_answer entry_bytes pick
   lengths h = (rw (ne_eqb _ _ h), rw (ne_eqb _ _ h))
 

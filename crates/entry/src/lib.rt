@@ -5,7 +5,7 @@ ghost use Rattle.std.specs.Prelude.{◌≡◌};
 ghost use Rattle.text.specs.Put.{Put, place_of, buffer_of};
 ghost use Rattle.entry.specs.Entry.{window_bytes, windows_bytes, frame_bytes, entry_answer, entry_bytes};
 
-use refusals::{Answer, Refusal};
+use refusals::Refusal;
 use windows::{Frame, Window};
 
 pub const FRAME_BYTES: usize = 2308;
@@ -52,21 +52,15 @@ pub fn put_frame(out: &mut [u8], at: usize, frame: Frame) -> usize
     text::put(out, at, &activity)
 }
 
-// The bytes change only where the answer is `Taken`.
-pub fn last_frame(script: &[u8], out: &mut [u8]) -> Answer
+// The bytes change only where nothing is refused.
+pub fn last_frame(script: &[u8], out: &mut [u8]) -> Result<(), Refusal>
     ensures { (result ≡ entry_answer script.now out.old) × (out.new ≡ entry_bytes script.now out.old) }
 {
     if out.len() != FRAME_BYTES {
-        return Answer::Refused(Refusal::Lengths);
+        return Err(Refusal::Lengths);
     }
     let ended = listing::run_script(script);
-    let answer = ended.answer;
-    let frame = ended.frame;
-    match answer {
-        Answer::Taken => {
-            put_frame(out, 0, frame);
-            Answer::Taken
-        }
-        Answer::Refused(refusal) => Answer::Refused(refusal),
-    }
+    ended.answer?;
+    put_frame(out, 0, ended.frame);
+    Ok(())
 }

@@ -1,5 +1,5 @@
 -- The call `frame` on the engine, line by line as the Rust's, with 01's refusal. Definitions only.
-use Rattle.std.specs.Prelude.{ℕ, List, map, Float}
+use Rattle.std.specs.Prelude.{ℕ, List, map, Float, Ok, Err}
 use Rattle.sequences.specs.Pick.{pick}
 use Rattle.sequences.specs.Walk.{count}
 use Rattle.floats.specs.Word.{difference}
@@ -8,7 +8,6 @@ use Rattle.state.specs.declared.Engine.{Engine}
 use Rattle.state.specs.declared.Tally.{Tally}
 use Rattle.state.specs.State.{with_particles, with_tally}
 use Rattle.pool.specs.declared.Particle.{Particle}
-use Rattle.refusals.specs.declared.Answer.TheVariants.{Taken, Refused}
 use Rattle.refusals.specs.declared.Refusal.TheVariants.{Seconds}
 use Rattle.windows.specs.declared.Window.{Window}
 use Rattle.windows.specs.Opening.{empty_frame}
@@ -67,11 +66,11 @@ renewed_of e held freed activity = with_tally (with_activity (with_particles e h
 unfoldable pub taken_of : Engine → Float → Float → Framed
 taken_of e bin_hz seconds =
     let activity = activity_of e.activity e.config.enabled seconds in
-    record { answer = Taken; frame = record { windows = windows_by e bin_hz; activity = activity }; engine = renewed_of e (held_of e) (freed_of e) activity }
+    record { answer = Ok tt; frame = record { windows = windows_by e bin_hz; activity = activity }; engine = renewed_of e (held_of e) (freed_of e) activity }
 
 -- refusal 7: the engine as it was, and an empty frame
 unfoldable pub refused_of : Engine → Framed
-refused_of e = record { answer = Refused Seconds; frame = empty_frame; engine = e }
+refused_of e = record { answer = Err Seconds; frame = empty_frame; engine = e }
 
 unfoldable pub framed_of : Engine → Float → Float → Framed
 framed_of e bin_hz seconds = pick (accepted seconds) (taken_of e bin_hz seconds) (refused_of e)

@@ -7,7 +7,7 @@ ghost use Rattle.frame.specs.Frame.{activity_of, accepted};
 ghost use Rattle.frame.specs.Call.{renewed_of, taken_of, refused_of, framed_of};
 
 use pool::{MAX_PARTICLES, Particle};
-use refusals::{Answer, Refusal};
+use refusals::Refusal;
 use state::Engine;
 use windows::Frame;
 
@@ -22,7 +22,7 @@ pub const TRANSITION_SECONDS: f32 = 0.05;
 pub struct Framed {
     pub engine: Engine,
     pub frame: Frame,
-    pub answer: Answer,
+    pub answer: Result<(), Refusal>,
 }
 
 // The background comes and goes over 0.05 s; below 1e-6 a disabled one is gone.
@@ -98,7 +98,7 @@ fn taken(
     let frame = Frame { windows, activity };
     let engine = renewed(engine, held, freed, activity);
     Framed {
-        answer: Answer::Taken,
+        answer: Ok(()),
         frame,
         engine,
     }
@@ -109,7 +109,7 @@ fn refused(engine: Engine) -> Framed
 {
     let frame = windows::empty_frame();
     Framed {
-        answer: Answer::Refused(Refusal::Seconds),
+        answer: Err(Refusal::Seconds),
         frame,
         engine,
     }

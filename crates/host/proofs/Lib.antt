@@ -1,2 +1,2 @@
 pub mod Small
-pub mod Told
+pub mod Telling

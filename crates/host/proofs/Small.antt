@@ -1,13 +1,12 @@
 -- The number of an answer fits in 32 bits.
+use Rattle.std.specs.Prelude.{Ok, Err}
 use Prim.Native.Nat.{◌^◌, ◌<◌}
 use lib.Dec.{lit<}
-use Rattle.refusals.specs.declared.Answer.{Answer}
-use Rattle.refusals.specs.declared.Answer.TheVariants.{Taken, Refused}
+use Rattle.refusals.specs.Numbers.{Answer, number_of, answer_of}
 use Rattle.refusals.specs.declared.Refusal.{Refusal}
 use Rattle.refusals.specs.declared.Refusal.TheVariants.{Rate, Slot, Size, Elapsed, Lengths, Logs, Seconds, Tag, Value, Place, Script, Room, HeaderCut, WrongLength, ValueCut, Attenuation, Record}
-use Rattle.refusals.specs.Numbers.{number_of, answer_of}
 
-number_small : (r : Refusal) → number_of r < 2 ^ 32
+pub number_small : (r : Refusal) → number_of r < 2 ^ 32
 number_small Rate = lit< tt
 number_small Slot = lit< tt
 number_small Size = lit< tt
@@ -27,5 +26,5 @@ number_small Attenuation = lit< tt
 number_small Record = lit< tt
 
 pub answer_small : (a : Answer) → answer_of a < 2 ^ 32
-answer_small Taken = lit< tt
-answer_small (Refused r) = number_small r
+answer_small (Ok tt) = lit< tt
+answer_small (Err r) = number_small r

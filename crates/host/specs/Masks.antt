@@ -1,13 +1,11 @@
 -- What a host sees of a script's mask file. Definitions only.
 use Rattle.std.specs.Prelude.{ℕ, List, Float}
-use Rattle.mask_files.specs.declared.Filed.{Filed}
-use Rattle.mask_files.specs.declared.Filed.TheVariants.{Upto, Refused}
-use Rattle.mask_files.specs.Masks.{filed_number, masks_of}
+use Rattle.script_writer.specs.Written.{count_of}
+use Rattle.mask_files.specs.Masks.{Filed, filed_number, masks_of}
 
 -- a refusal leaves the count as it was
 abbrev pub place_by : ℕ → Filed → ℕ
-place_by at (Upto after) = after
-place_by at (Refused r) = at
+place_by at filed = count_of at filed
 
 -- the number of the answer, the buffer, and the count behind its reference
 abbrev pub masks_at : List ℕ → ℕ → Float → List ℕ → ℕ → ℕ × List ℕ × ℕ

@@ -1,23 +1,9 @@
 // The mask file of a script for a host: 0 and the count behind `at` moved on, or a refusal's number and
 // all as it was.
 ghost use Rattle.std.specs.Prelude.{◌≡◌};
-ghost use Rattle.mask_files.specs.Masks.{filed_number};
-ghost use Rattle.host.specs.Masks.{place_by, masks_at};
+ghost use Rattle.host.specs.Masks.{masks_at};
 
-use mask_files::Filed;
-
-// The place after the records goes behind `at`; the answer, by its number, comes back.
-fn told(filed: Filed, at: &mut u64) -> u32
-    ensures { (result ≡ filed_number filed) × (at.new ≡ place_by at.old filed) }
-{
-    match filed {
-        Filed::Upto(after) => {
-            *at = after as u64;
-            0
-        }
-        Filed::Refused(refusal) => refusals::number(refusal) as u32,
-    }
-}
+use crate::told;
 
 #[unsafe(no_mangle)]
 pub extern "C" fn rk_masks(

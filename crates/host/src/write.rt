@@ -2,20 +2,10 @@
 // was.
 ghost use Rattle.std.specs.Prelude.{◌≡◌};
 ghost use Rattle.script.specs.declared.fields.Field.TheVariants as F;
-ghost use Rattle.refusals.specs.Numbers.{answer_of};
 ghost use Rattle.host.specs.Write.{config_from, written_at};
 
-use script_writer::Written;
+use crate::told;
 use settings::Config;
-
-// The count after a write goes behind `at`; the answer, by its number, comes back.
-fn told(written: Written, at: &mut u64) -> u32
-    ensures { (result ≡ answer_of written.answer) × (at.new ≡ written.count) }
-{
-    *at = written.count as u64;
-    let answer = written.answer;
-    refusals::answer_number(answer) as u32
-}
 
 #[unsafe(no_mangle)]
 pub extern "C" fn rk_write_rate(rate: f32, out: &mut [u8], at: &mut u64) -> u32

@@ -1,7 +1,6 @@
 -- What a whole script comes to. Definitions only.
-use Rattle.std.specs.Prelude.{ℕ, cond, List, length, nat_le}
-use Rattle.refusals.specs.declared.Answer.{Answer}
-use Rattle.refusals.specs.declared.Answer.TheVariants.{Taken, Refused}
+use Rattle.std.specs.Prelude.{ℕ, cond, List, length, nat_le, Ok, Err}
+use Rattle.refusals.specs.Numbers.{Answer}
 use Rattle.refusals.specs.declared.Refusal.TheVariants.{Script}
 use Rattle.script_steps.specs.declared.Run.{Run}
 use Rattle.script_steps.specs.Steps.{fresh}
@@ -13,11 +12,11 @@ use Rattle.listing.specs.Last.{last_turn_of}
 
 -- the reader's number, or 1 in field 1
 abbrev pub bad_of : Line → Answer
-bad_of L.Nothing = Taken
-bad_of (L.Frame n v) = Taken
-bad_of (L.Refused n r) = Taken
-bad_of (L.Bad n r p) = Refused r
-bad_of (L.End n) = Taken
+bad_of L.Nothing = Ok tt
+bad_of (L.Frame n v) = Ok tt
+bad_of (L.Refused n r) = Ok tt
+bad_of (L.Bad n r p) = Err r
+bad_of (L.End n) = Ok tt
 
 abbrev pub ran_to : Run → Answer → Ended
 ran_to run a = record { answer = a; frame = run.frame }
@@ -27,4 +26,4 @@ ended_of t = ran_to t.run (bad_of t.line)
 
 -- a script that is too long is not run
 unfoldable pub ran_of : List ℕ → Ended
-ran_of s = cond (nat_le (length s) 60000) (ended_of (last_turn_of s)) (ran_to fresh (Refused Script))
+ran_of s = cond (nat_le (length s) 60000) (ended_of (last_turn_of s)) (ran_to fresh (Err Script))

@@ -1,15 +1,12 @@
 -- A script from its first field to its end, a turn for each field. Definitions only.
-use Rattle.std.specs.Prelude.{ℕ, zero, suc, ◌+◌, ◌-◌, Bool, cond, List, [], ◌∷◌, length, drop, ◌==◌}
+use Rattle.std.specs.Prelude.{ℕ, zero, suc, ◌+◌, ◌-◌, Bool, cond, List, [], ◌∷◌, length, drop, ◌==◌, Some, None, Ok, Err}
 use Rattle.sequences.specs.Pick.{pick}
 use Rattle.refusals.specs.declared.Refusal.{Refusal}
 use Rattle.refusals.specs.declared.Refusal.TheVariants.{HeaderCut}
 use Rattle.refusals.specs.Numbers.{number_of}
-use Rattle.script.specs.declared.Read.{Read}
-use Rattle.script.specs.declared.Read.TheVariants as S
-use Rattle.script.specs.Field.{read_of}
+use Rattle.script.specs.Field.{Read, read_of}
 use Rattle.script_steps.specs.declared.Run.{Run}
-use Rattle.script_steps.specs.declared.Reply.{Reply}
-use Rattle.script_steps.specs.declared.Reply.TheVariants as R
+use Rattle.script_steps.specs.Replies.{Reply}
 use Rattle.listing.specs.declared.lines.Line.{Line}
 use Rattle.listing.specs.declared.lines.Line.TheVariants as L
 use Rattle.listing.specs.declared.turns.Turn.{Turn}
@@ -24,18 +21,18 @@ abbrev pub refusal_of : Bool → Run → ℕ → ℕ → ℕ → Refusal → Tur
 refusal_of first run n at k r = cond first (told_of run (L.Bad n r at) 0) (told_of run (L.Refused n r) k)
 
 abbrev pub replied_of : ℕ → ℕ → ℕ → Run → Reply → Turn
-replied_of n at k run R.Quiet = told_of run L.Nothing k
-replied_of n at k run (R.Refused r) = refusal_of (n == 1) run n at k r
-replied_of n at k run (R.Framed v) = told_of run (L.Frame n v) k
+replied_of n at k run (Ok None) = told_of run L.Nothing k
+replied_of n at k run (Err r) = refusal_of (n == 1) run n at k r
+replied_of n at k run (Ok (Some v)) = told_of run (L.Frame n v) k
 
 -- the place that the reader's refusal is told with: that of the field's tag, or the end of the script where the header is cut
 unfoldable pub bad_place : Refusal → ℕ → List ℕ → ℕ
 bad_place r at s = pick (number_of r == number_of HeaderCut) (length s) at
 
 abbrev pub after_of : Run → ℕ → ℕ → List ℕ → Read → Turn
-after_of run n at s (S.Field f k) = replied_of n at k (step_of run f).run (step_of run f).reply
-after_of run n at s (S.Bad r) = told_of run (L.Bad n r (bad_place r at s)) 0
-after_of run n at s S.End = told_of run (L.End (n - 1)) 0
+after_of run n at s (Ok (Some (f, k))) = replied_of n at k (step_of run f).run (step_of run f).reply
+after_of run n at s (Err r) = told_of run (L.Bad n r (bad_place r at s)) 0
+after_of run n at s (Ok None) = told_of run (L.End (n - 1)) 0
 
 -- field n of the script s, whose tag stands at `at`
 unfoldable pub turn_of : Run → ℕ → ℕ → List ℕ → Turn

@@ -5,18 +5,18 @@ ghost use Rattle.listing.specs.Ended.{bad_of, ran_to, ended_of, ran_of};
 use crate::lines::Line;
 use crate::turns;
 use crate::turns::Turn;
-use refusals::{Answer, Refusal};
+use refusals::Refusal;
 use script_steps::Run;
 use windows::Frame;
 
 // The refusal that the script went bad with, if any, and its last accepted frame.
 #[derive(Clone, Copy)]
 pub struct Ended {
-    pub answer: Answer,
+    pub answer: Result<(), Refusal>,
     pub frame: Frame,
 }
 
-fn ran(run: Run, answer: Answer) -> Ended
+fn ran(run: Run, answer: Result<(), Refusal>) -> Ended
     ensures { result ≡ ran_to run answer }
 {
     let frame = run.frame;
@@ -24,15 +24,15 @@ fn ran(run: Run, answer: Answer) -> Ended
 }
 
 // The refusal that a script which ends with this line went bad with.
-pub fn bad_of(line: Line) -> Answer
+pub fn bad_of(line: Line) -> Result<(), Refusal>
     ensures { result ≡ bad_of line }
 {
     match line {
-        Line::Bad(_, refusal, _) => Answer::Refused(refusal),
-        Line::Nothing => Answer::Taken,
-        Line::Frame(_, _) => Answer::Taken,
-        Line::Refused(_, _) => Answer::Taken,
-        Line::End(_) => Answer::Taken,
+        Line::Bad(_, refusal, _) => Err(refusal),
+        Line::Nothing => Ok(()),
+        Line::Frame(_, _) => Ok(()),
+        Line::Refused(_, _) => Ok(()),
+        Line::End(_) => Ok(()),
     }
 }
 
@@ -51,6 +51,6 @@ pub fn run_script(script: &[u8]) -> Ended
     if script.len() <= script::MAX_SCRIPT_BYTES {
         end_of(turns::last_turn(script))
     } else {
-        ran(script_steps::fresh(), Answer::Refused(Refusal::Script))
+        ran(script_steps::fresh(), Err(Refusal::Script))
     }
 }

@@ -19,12 +19,6 @@ pub use ending::{Ended, bad_of, run_script};
 pub use lines::{Line, put_line};
 pub use turns::{Reached, next_frame, one_turn};
 
-#[derive(Clone, Copy)]
-pub enum Listed {
-    Count(usize),
-    Refused(Refusal),
-}
-
 // The lines from field n on, which stands at `at`, behind what `out` has before w. Fields that print
 // nothing are gone through in one place; the run is handed on from line to line.
 fn list_fields(run: Run, n: u64, at: usize, w: usize, script: &[u8], out: &mut [u8]) -> usize
@@ -74,13 +68,13 @@ pub fn room(n: usize) -> usize
 
 // What the script prints, at the start of `out`, and the count of its bytes; 13, and `out` as it was,
 // where that has no room for the longest listing of so many bytes of script.
-pub fn list_script(script: &[u8], out: &mut [u8]) -> Listed
+pub fn list_script(script: &[u8], out: &mut [u8]) -> Result<usize, Refusal>
     ensures { (result ≡ listed_of (length out.old) script.now) × (out.new ≡ left_in out.old script.now) }
 {
     let needed = room(script.len());
     if out.len() < needed {
-        return Listed::Refused(Refusal::Room);
+        return Err(Refusal::Room);
     }
     let n = listing(script, out);
-    Listed::Count(n)
+    Ok(n)
 }

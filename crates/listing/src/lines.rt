@@ -66,7 +66,7 @@ fn put_field(out: &mut [u8], at: usize, n: u64, word: &[u8], refusal: Refusal) -
     let a = put(out, at, b"field ");
     let a = put_dec(out, a, n);
     let a = put(out, a, word);
-    put_dec(out, a, refusals::number(refusal))
+    put_dec(out, a, u64::from(refusal))
 }
 
 fn put_refused(out: &mut [u8], at: usize, n: u64, refusal: Refusal) -> usize

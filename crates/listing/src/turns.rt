@@ -7,9 +7,9 @@ ghost use Rattle.listing.specs.declared.turns.Until.TheVariants as Until;
 ghost use Rattle.listing.specs.Saying.{says_of, said_of};
 
 use crate::lines::Line;
-use refusals::{Answer, Refusal};
-use script::{Field, Read};
-use script_steps::{Reply, Run};
+use refusals::Refusal;
+use script::Field;
+use script_steps::{Run, Values};
 use sources::Source;
 
 // One turn: the run after it, its line, and how many bytes of script it took, 0 to stop.
@@ -58,19 +58,19 @@ fn says(line: Line, taken: usize) -> Said
 }
 
 // A refusal in field 1 is the rate's, and stops the run.
-fn replied(n: u64, at: usize, k: usize, reply: Reply) -> Said
+fn replied(n: u64, at: usize, k: usize, reply: Result<Option<Values>, Refusal>) -> Said
     ensures { result ≡ said_of n at k reply }
 {
     match reply {
-        Reply::Quiet => says(Line::Nothing, k),
-        Reply::Refused(refusal) => {
+        Ok(None) => says(Line::Nothing, k),
+        Err(refusal) => {
             if n == 1 {
                 says(Line::Bad(n, refusal, at), 0)
             } else {
                 says(Line::Refused(n, refusal), k)
             }
         }
-        Reply::Framed(values) => says(Line::Frame(n, values), k),
+        Ok(Some(values)) => says(Line::Frame(n, values), k),
     }
 }
 
@@ -86,10 +86,9 @@ fn before(n: u64) -> u64
 fn bad_place(refusal: Refusal, at: usize, script: &[u8]) -> usize
     ensures { result ≡ bad_place refusal at script.now }
 {
-    if refusals::number(refusal) == refusals::number(Refusal::HeaderCut) {
-        script.len()
-    } else {
-        at
+    match refusal {
+        Refusal::HeaderCut => script.len(),
+        _ => at,
     }
 }
 
@@ -161,8 +160,8 @@ fn take_turns(until: Until, run: Run, n: u64, at: usize, script: &[u8]) -> Reach
     loop {
         let read = script::read_field(&script[at..], n == 1);
         match read {
-            Read::Field(field, k) => {
-                let mut reply = Reply::Quiet;
+            Ok(Some((field, k))) => {
+                let mut reply = Ok(None);
                 match field {
                     Field::Rate(rate) => {
                         let done = engine::new_engine(rate);
@@ -203,7 +202,7 @@ fn take_turns(until: Until, run: Run, n: u64, at: usize, script: &[u8]) -> Reach
                         let triggered = engine::trigger(engine, slot as usize);
                         let outcome = triggered.outcome;
                         engine = triggered.engine;
-                        reply = script_steps::fired(outcome);
+                        reply = script_steps::answered(outcome);
                     }
                     Field::Seek(cycles) => {
                         engine = engine::seek(engine, cycles);
@@ -219,13 +218,13 @@ fn take_turns(until: Until, run: Run, n: u64, at: usize, script: &[u8]) -> Reach
                         let answer = framed.answer;
                         engine = framed.engine;
                         match answer {
-                            Answer::Taken => {
+                            Ok(()) => {
                                 frame = framed.frame;
                                 let values = script_steps::values_of(engine, frame.activity);
-                                reply = Reply::Framed(values);
+                                reply = Ok(Some(values));
                             }
-                            Answer::Refused(refusal) => {
-                                reply = Reply::Refused(refusal);
+                            Err(refusal) => {
+                                reply = Err(refusal);
                             }
                         }
                     }
@@ -243,7 +242,7 @@ fn take_turns(until: Until, run: Run, n: u64, at: usize, script: &[u8]) -> Reach
                         let triggered = engine::trigger_reserved(engine, slot as usize, index);
                         let outcome = triggered.outcome;
                         engine = triggered.engine;
-                        reply = script_steps::fired(outcome);
+                        reply = script_steps::answered(outcome);
                     }
                 }
                 let said = replied(n, at, k, reply);
@@ -257,12 +256,12 @@ fn take_turns(until: Until, run: Run, n: u64, at: usize, script: &[u8]) -> Reach
                     return reach(told(run, line, taken), n, at);
                 }
             }
-            Read::Bad(refusal) => {
+            Err(refusal) => {
                 let run = Run { engine, frame };
                 let place = bad_place(refusal, at, script);
                 return reach(told(run, Line::Bad(n, refusal, place), 0), n, at);
             }
-            Read::End => {
+            Ok(None) => {
                 let run = Run { engine, frame };
                 return reach(told(run, Line::End(before(n)), 0), n, at);
             }

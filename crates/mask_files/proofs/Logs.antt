@@ -5,7 +5,7 @@ use lib.Ieee.Bits.{of_bits-fits}
 use Rattle.sequences.specs.Pick.{by-case, picked, passed}
 use Rattle.sequences.specs.Table.{length_table}
 use Rattle.floats.specs.Names.{div32, as_float}
-use Rattle.refusals.specs.declared.Answer.{Answer}
+use Rattle.refusals.specs.Numbers.{Answer}
 use Rattle.settings.specs.Settings.{lawful_rate}
 use Rattle.script.specs.declared.tags.Kind.{Kind}
 use Rattle.script.specs.declared.tags.Kind.TheVariants as K

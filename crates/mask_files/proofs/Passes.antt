@@ -1,10 +1,9 @@
 -- The two passes over a script: one counts what the other writes.
-use Rattle.std.proofs.Common.{◌≡◌, ℕ, ◌+◌, ◌-◌, ◌*◌, ◌≤◌, List, [], length, sym, ap, ◌∙◌, subst, arith, length-append}
+use Rattle.std.proofs.Common.{◌≡◌, ℕ, ◌+◌, ◌-◌, ◌*◌, ◌≤◌, List, [], length, sym, ap, ◌∙◌, subst, arith, length-append, Ok, Err}
 use lib.Ieee.{Float}
 use Rattle.text.specs.Put.{Put, splice}
 use Rattle.text.proofs.Laws.{nothing, seq, spliced}
-use Rattle.refusals.specs.declared.Answer.{Answer}
-use Rattle.refusals.specs.declared.Answer.TheVariants.{Taken, Refused}
+use Rattle.refusals.specs.Numbers.{Answer}
 use Rattle.refusals.specs.declared.Refusal.{Refusal}
 use Rattle.script_steps.specs.Steps.{fresh}
 use Rattle.listing.specs.Turns.{turns_of}
@@ -80,21 +79,21 @@ module _ (depth : Float) (logs : List Float) (script : List ℕ) where
         made : (x y : ℕ) (c d : Answer) → x ≡ y → c ≡ d → ◌≡◌ {A = Measured} (record { bytes = x; answer = c }) (record { bytes = y; answer = d })
         made x y c d p q = rw (p, q)
 
-    pub measuring_stops : (room : ℕ) (r : Refusal) (a : Answer) → a ≡ Refused r → record_size (length logs) ≤ room → Unrecorded (left_of depth logs script walk) room (record_size (length logs)) 0 r
+    pub measuring_stops : (room : ℕ) (r : Refusal) (a : Answer) → a ≡ Err r → record_size (length logs) ≤ room → Unrecorded (left_of depth logs script walk) room (record_size (length logs)) 0 r
         → record { bytes = bytes; answer = a } ≡ measured_of (whole_of depth logs script)
-    measuring_stops room r a s fits (ends e) = measuring_ends a (Refused r) s e
+    measuring_stops room r a s fits (ends e) = measuring_ends a (Err r) s e
     measuring_stops room r a s fits (full h g) = absurd (omega arith)
 
 -- ---- the second pass
 pub record Writing (depth : Float) (logs : List Float) (script o : List ℕ) (start : ℕ) (out : List ℕ) (walk : Walk) (at : ℕ) : Type 0 where
   pub stands : Stands script walk
-  pub taken : (left_of depth logs script walk).1 ≡ Taken
+  pub taken : (left_of depth logs script walk).1 ≡ Ok tt
   pub room : at + length (left_of depth logs script walk).0 ≤ length out
   -- whatever writes what is left, writes with what is written the whole
   pub goes : (p : List ℕ) (r : ℕ) → Put out p at r (left_of depth logs script walk).0 → Put o p start r (whole_of depth logs script).0
 
 module _ (depth : Float) (logs : List Float) (script o : List ℕ) (start : ℕ) where
-  pub writing_starts : (walk : Walk) → walk ≡ walk_start → (whole_of depth logs script).1 ≡ Taken → start + length (whole_of depth logs script).0 ≤ length o → Writing depth logs script o start o walk start
+  pub writing_starts : (walk : Walk) → walk ≡ walk_start → (whole_of depth logs script).1 ≡ Ok tt → start + length (whole_of depth logs script).0 ≤ length o → Writing depth logs script o start o walk start
   writing_starts walk e t h =
       let left = start_left depth logs script in
       subst (λ (w : Walk). Writing depth logs script o start o w start) (sym e)

@@ -1,19 +1,15 @@
 -- Fields without a frame add no record: up to the next frame, or to the script's last line, the file is what is left from there.
-use Rattle.std.proofs.Common.{◌≡◌, ℕ, zero, suc, ◌+◌, ◌-◌, ◌^◌, ◌<◌, ◌≤◌, Bool, true, false, eqb, List, [], length, drop, sym, refl, ap, ◌∙◌, subst, arith, eq-eqb, ne_eqb, eqb-true}
+use Rattle.std.proofs.Common.{◌≡◌, ℕ, zero, suc, ◌+◌, ◌-◌, ◌^◌, ◌<◌, ◌≤◌, Bool, true, false, eqb, List, [], length, drop, sym, refl, ap, ◌∙◌, subst, arith, eq-eqb, ne_eqb, eqb-true, Some, None, Ok, Err}
 use mathlib.Core.Bool.{false≢true}
 use lib.Ieee.{Float}
 use Rattle.sequences.specs.Pick.{picked, passed, by-case}
-use Rattle.refusals.specs.declared.Answer.{Answer}
-use Rattle.refusals.specs.declared.Answer.TheVariants.{Taken}
+use Rattle.refusals.specs.Numbers.{Answer}
 use Rattle.refusals.specs.declared.Refusal.{Refusal}
-use Rattle.script.specs.declared.Read.{Read}
-use Rattle.script.specs.declared.Read.TheVariants as S
-use Rattle.script.specs.Field.{read_of}
+use Rattle.script.specs.Field.{Read, read_of}
 use Rattle.script.proofs.Taken as Read-takes
 use Rattle.floats.specs.Word.{grown}
 use Rattle.script_steps.specs.declared.Run.{Run}
-use Rattle.script_steps.specs.declared.Reply.{Reply}
-use Rattle.script_steps.specs.declared.Reply.TheVariants as R
+use Rattle.script_steps.specs.Replies.{Reply}
 use Rattle.script_steps.specs.Steps.{step_of}
 use Rattle.windows.specs.declared.Frame.{Frame}
 use Rattle.listing.specs.declared.lines.Line.{Line}
@@ -46,14 +42,14 @@ refusal_frame true run n at k r = refl
 refusal_frame false run n at k r = refl
 
 reply_frame : (n at k : ℕ) (run : Run) (a : Reply) → is_frameless (replied_of n at k run a).line ≡ false → (replied_of n at k run a).taken ≡ k
-reply_frame n at k run R.Quiet h = absurd (false≢true (sym h))
-reply_frame n at k run (R.Refused r) h = absurd (false≢true (sym h ∙ refusal_frame (eqb n 1) run n at k r))
-reply_frame n at k run (R.Framed v) h = refl
+reply_frame n at k run (Ok None) h = absurd (false≢true (sym h))
+reply_frame n at k run (Err r) h = absurd (false≢true (sym h ∙ refusal_frame (eqb n 1) run n at k r))
+reply_frame n at k run (Ok (Some v)) h = refl
 
 read_frame : (run : Run) (n at : ℕ) (s : List ℕ) (r : Read) (m : ℕ) → Read-takes.Taken r m → is_frameless (after_of run n at s r).line ≡ false → (after_of run n at s r).taken ≡ 0 → ⊥
-read_frame run n at s (S.Field f k) m (Read-takes.field lo hi) h z = let e = reply_frame n at k (step_of run f).run (step_of run f).reply h in omega arith
-read_frame run n at s (S.Bad r) m Read-takes.bad h z = false≢true (sym h)
-read_frame run n at s S.End m Read-takes.end h z = false≢true (sym h)
+read_frame run n at s (Ok (Some (f, k))) m (Read-takes.field lo hi) h z = let e = reply_frame n at k (step_of run f).run (step_of run f).reply h in omega arith
+read_frame run n at s (Err r) m Read-takes.bad h z = false≢true (sym h)
+read_frame run n at s (Ok None) m Read-takes.end h z = false≢true (sym h)
 
 pub frame_takes : (run : Run) (n at : ℕ) (s : List ℕ) → is_frameless (turn_of run n at s).line ≡ false → (turn_of run n at s).taken ≡ 0 → ⊥
 unfolding turn_of
@@ -68,21 +64,21 @@ module _ (depth : Float) (logs : List Float) where
     refusal_adds false run n at k r h = refl
 
     reply_adds : (n at k : ℕ) (run : Run) (a : Reply) → goes_on_of U.Frame (replied_of n at k run a).line (replied_of n at k run a).taken ≡ true → filed_by depth logs f (replied_of n at k run a).line rest ≡ rest
-    reply_adds n at k run R.Quiet h = refl
-    reply_adds n at k run (R.Refused r) h = refusal_adds (eqb n 1) run n at k r h
-    reply_adds n at k run (R.Framed v) h = absurd (false≢true (sym (frame-ends (L.Frame n v) k refl) ∙ h))
+    reply_adds n at k run (Ok None) h = refl
+    reply_adds n at k run (Err r) h = refusal_adds (eqb n 1) run n at k r h
+    reply_adds n at k run (Ok (Some v)) h = absurd (false≢true (sym (frame-ends (L.Frame n v) k refl) ∙ h))
 
     read_adds : (run : Run) (n at : ℕ) (s : List ℕ) (r : Read) → goes_on_of U.Frame (after_of run n at s r).line (after_of run n at s r).taken ≡ true → filed_by depth logs f (after_of run n at s r).line rest ≡ rest
-    read_adds run n at s (S.Field x k) h = reply_adds n at k (step_of run x).run (step_of run x).reply h
-    read_adds run n at s (S.Bad r) h = absurd (false≢true (sym (none-ends U.Frame (L.Bad n r (bad_place r at s))) ∙ h))
-    read_adds run n at s S.End h = refl
+    read_adds run n at s (Ok (Some (x, k))) h = reply_adds n at k (step_of run x).run (step_of run x).reply h
+    read_adds run n at s (Err r) h = absurd (false≢true (sym (none-ends U.Frame (L.Bad n r (bad_place r at s))) ∙ h))
+    read_adds run n at s (Ok None) h = refl
 
     adds_nothing : (run : Run) (n at : ℕ) (s : List ℕ) → goes_on_of U.Frame (turn_of run n at s).line (turn_of run n at s).taken ≡ true → filed_by depth logs f (turn_of run n at s).line rest ≡ rest
     unfolding turn_of
     adds_nothing run n at s h = read_adds run n at s (read_of (drop at s) (eqb n 1)) h
 
   -- ---- one turn, and what is left behind it
-  pub last_turn : (f : ℕ) (run : Run) (n at : ℕ) (s : List ℕ) → (turn_of run n at s).taken ≡ 0 → filed_from depth logs (suc f) run n at s ≡ filed_by depth logs (turn_of run n at s).run.frame (turn_of run n at s).line ([], Taken)
+  pub last_turn : (f : ℕ) (run : Run) (n at : ℕ) (s : List ℕ) → (turn_of run n at s).taken ≡ 0 → filed_from depth logs (suc f) run n at s ≡ filed_by depth logs (turn_of run n at s).run.frame (turn_of run n at s).line ([], Ok tt)
   unfolding turns_from filed_of
   last_turn f run n at s h = rw (eq-eqb _ _ h)
 

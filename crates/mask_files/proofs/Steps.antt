@@ -1,11 +1,10 @@
 -- What a step of a walk tells of the file that is left.
-use Rattle.std.proofs.Common.{◌≡◌, ℕ, suc, ◌+◌, ◌-◌, ◌^◌, ◌<◌, ◌≤◌, true, false, leb, List, [], ◌++◌, length, sym, refl, ap, ◌∙◌, subst, arith, length-append, le-ltb, eq-eqb, le-leb, leb-false, leb-true}
+use Rattle.std.proofs.Common.{◌≡◌, ℕ, suc, ◌+◌, ◌-◌, ◌^◌, ◌<◌, ◌≤◌, true, false, leb, List, [], ◌++◌, length, sym, refl, ap, ◌∙◌, subst, arith, length-append, le-ltb, eq-eqb, le-leb, leb-false, leb-true, Ok, Err}
 use mathlib.Core.Bool.{false≢true}
 use lib.Ieee.{Float, nan}
 use Rattle.sequences.specs.Pick.{pick, by-case, picked, passed, took, skipped}
 use Rattle.text.specs.Put.{splice}
-use Rattle.refusals.specs.declared.Answer.{Answer}
-use Rattle.refusals.specs.declared.Answer.TheVariants.{Taken, Refused}
+use Rattle.refusals.specs.Numbers.{Answer}
 use Rattle.refusals.specs.declared.Refusal.{Refusal}
 use Rattle.refusals.specs.declared.Refusal.TheVariants.{Room, Attenuation}
 use Rattle.floats.specs.Word.{grown}
@@ -20,10 +19,8 @@ use Rattle.listing.specs.Turns.{turn_of}
 use Rattle.listing.specs.Reaching.{is_frameless, inside_of}
 use Rattle.listing.proofs.TurnLaws.{taken-left}
 use Rattle.listing.specs.Ended.{bad_of}
-use Rattle.mask_records.specs.declared.Written.{Written}
-use Rattle.mask_records.specs.declared.Written.TheVariants as W
+use Rattle.mask_records.specs.Placed.{Written, record_size}
 use Rattle.mask_records.specs.Bytes.{record_of}
-use Rattle.mask_records.specs.Placed.{record_size}
 use Rattle.mask_records.specs.Written.{entries_of, scratch_of, record_written}
 use Rattle.mask_records.proofs.Pairs.{record_length}
 use Rattle.mask_laws.proofs.Frames.{entries-count}
@@ -62,8 +59,8 @@ Both = Written × List Float × List ℕ
 module _ (sample : ℕ) (f : Frame) (depth : Float) (logs scratch : List Float) (out : List ℕ) (at : ℕ) (bins : Bins logs scratch) where
   written_is : (x : Both)
       → x ≡ pick (all_numbers f depth logs)
-      (pick (leb (at + record_size (length logs)) (length out)) (W.Upto (at + record_size (length logs)), scratch_of f depth logs scratch, splice out at (record_of sample (entries_of f depth logs))) (W.Refused Room, scratch, out))
-      (W.Refused Attenuation, scratch, out)
+      (pick (leb (at + record_size (length logs)) (length out)) (Ok (at + record_size (length logs)), scratch_of f depth logs scratch, splice out at (record_of sample (entries_of f depth logs))) (Err Room, scratch, out))
+      (Err Attenuation, scratch, out)
       → x ≡ record_written sample f depth logs scratch out at
   unfolding record_written all_numbers
   written_is x e =
@@ -71,13 +68,13 @@ module _ (sample : ℕ) (f : Frame) (depth : Float) (logs scratch : List Float) 
       (took _ _ _ _ bins.lawful (skipped _ _ _ _ (le-ltb _ _ bins.some) (skipped _ _ _ _ (le-ltb _ _ bins.few) e)))
 
   pub recorded : all_numbers f depth logs ≡ true → at + record_size (length logs) ≤ length out
-      → (W.Upto (at + record_size (length logs)), scratch_of f depth logs scratch, splice out at (record_of sample (entries_of f depth logs))) ≡ record_written sample f depth logs scratch out at
+      → (Ok (at + record_size (length logs)), scratch_of f depth logs scratch, splice out at (record_of sample (entries_of f depth logs))) ≡ record_written sample f depth logs scratch out at
   recorded a h = written_is _ (took _ _ _ _ a (took _ _ _ _ (le-leb _ _ h) refl))
 
-  pub unplaced : all_numbers f depth logs ≡ true → leb (at + record_size (length logs)) (length out) ≡ false → (W.Refused Room, scratch, out) ≡ record_written sample f depth logs scratch out at
+  pub unplaced : all_numbers f depth logs ≡ true → leb (at + record_size (length logs)) (length out) ≡ false → (Err Room, scratch, out) ≡ record_written sample f depth logs scratch out at
   unplaced a h = written_is _ (took _ _ _ _ a (skipped _ _ _ _ h refl))
 
-  pub no_number : all_numbers f depth logs ≡ false → (W.Refused Attenuation, scratch, out) ≡ record_written sample f depth logs scratch out at
+  pub no_number : all_numbers f depth logs ≡ false → (Err Attenuation, scratch, out) ≡ record_written sample f depth logs scratch out at
   no_number a = written_is _ (skipped _ _ _ _ a refl)
 
 -- ---- a walk in a script
@@ -103,7 +100,7 @@ pub record Recorded (depth : Float) (logs : List Float) (script : List ℕ) (wal
 
 -- none was: the file ends here, or there is no room for what is left of it
 pub data Unrecorded (left : List ℕ × Answer) (room size at : ℕ) (r : Refusal) : Type 0 where
-  ends : left ≡ ([], Refused r) → Unrecorded left room size at r
+  ends : left ≡ ([], Err r) → Unrecorded left room size at r
   full : room < at + size → size ≤ length left.0 → Unrecorded left room size at r
 
 abbrev pub Tells : Float → List Float → List ℕ → Walk → Walk → List ℕ → List ℕ → ℕ → Made → Type 0
@@ -151,10 +148,10 @@ module _ (depth : Float) (logs : List Float) (script : List ℕ) (top : length s
       let fuel : length script + 2 - walk.n ≡ suc (length script + 1 - r.n) + (r.n - walk.n) = omega arith in
       ap (λ (f : ℕ). filed_from depth logs f walk.run walk.n walk.at script) fuel ∙ p.files counts (suc (length script + 1 - r.n))
 
-  at_last : r.turn.taken ≡ 0 → left_of depth logs script walk ≡ filed_by depth logs r.turn.run.frame r.turn.line ([], Taken)
+  at_last : r.turn.taken ≡ 0 → left_of depth logs script walk ≡ filed_by depth logs r.turn.run.frame r.turn.line ([], Ok tt)
   at_last h =
       from_there ∙ last_turn depth logs m p.before r.n r.at script (ap (λ (x : Turn). x.taken) (sym t_is) ∙ h)
-      ∙ ap (λ (x : Turn). filed_by depth logs x.run.frame x.line ([], Taken)) (sym t_is)
+      ∙ ap (λ (x : Turn). filed_by depth logs x.run.frame x.line ([], Ok tt)) (sym t_is)
 
   at-frame : (r.turn.taken ≡ 0 → ⊥) → left_of depth logs script walk ≡ filed_by depth logs r.turn.run.frame r.turn.line (left_of depth logs script next)
   unfolding m next
@@ -199,7 +196,7 @@ module _ (depth : Float) (logs : List Float) (script : List ℕ) (top : length s
         let rest = left_of depth logs script next in
         by-case (all_numbers f depth logs)
         (λ y.
-        let is : left_of depth logs script walk ≡ (b ++ rest.0, rest.1) = left ∙ sym (picked (all_numbers f depth logs) (b ++ rest.0, rest.1) ([], Refused Attenuation) y) in
+        let is : left_of depth logs script walk ≡ (b ++ rest.0, rest.1) = left ∙ sym (picked (all_numbers f depth logs) (b ++ rest.0, rest.1) ([], Err Attenuation) y) in
         by-case (leb (at + record_size (length logs)) (length out))
         (λ z.
         let fit : at + record_size (length logs) ≤ length out = leb-true (at + record_size (length logs)) (length out) z in
@@ -222,9 +219,9 @@ module _ (depth : Float) (logs : List Float) (script : List ℕ) (top : length s
         (λ y.
         subst (λ (x : Both). Tells depth logs script walk next out x.2 at (made_of n x.0))
         (no_number v.sample f depth logs scratch out at bins y)
-        (ends (left ∙ sym (passed (all_numbers f depth logs) (b ++ rest.0, rest.1) ([], Refused Attenuation) y))))
+        (ends (left ∙ sym (passed (all_numbers f depth logs) (b ++ rest.0, rest.1) ([], Err Attenuation) y))))
 
-    filed_last : (l : Line) → is_frameless l ≡ true → (f : Frame) → filed_by depth logs f l ([], Taken) ≡ ([], bad_of l)
+    filed_last : (l : Line) → is_frameless l ≡ true → (f : Frame) → filed_by depth logs f l ([], Ok tt) ≡ ([], bad_of l)
     filed_last L.Nothing h f = refl
     filed_last (L.Frame n v) h f = absurd (false≢true h)
     filed_last (L.Refused n k) h f = refl
@@ -234,7 +231,7 @@ module _ (depth : Float) (logs : List Float) (script : List ℕ) (top : length s
     last_tells : (l : Line) → r.turn.line ≡ l → is_frameless l ≡ true → left_of depth logs script walk ≡ ([], bad_of l)
     last_tells l e h =
         let none : r.turn.taken ≡ 0 = last_takes_none r.turn.line r.turn.taken p.ends (ap is_frameless e ∙ h) in
-        at_last none ∙ ap (λ (x : Line). filed_by depth logs r.turn.run.frame x ([], Taken)) e ∙ filed_last l h r.turn.run.frame
+        at_last none ∙ ap (λ (x : Line). filed_by depth logs r.turn.run.frame x ([], Ok tt)) e ∙ filed_last l h r.turn.run.frame
 
     line_tells : (l : Line) → r.turn.line ≡ l
         → Tells depth logs script walk (step_by next r.turn.run.frame l depth logs scratch out at).0.walk out (step_by next r.turn.run.frame l depth logs scratch out at).2 at (step_by next r.turn.run.frame l depth logs scratch out at).0.made

@@ -7,7 +7,7 @@ use Rattle.listing.specs.declared.lines.Line.{Line}
 use Rattle.listing.specs.declared.lines.Line.TheVariants as L
 use Rattle.listing.specs.declared.turns.Reached.{Reached}
 use Rattle.listing.specs.Reaching.{is_frameless}
-use Rattle.mask_records.specs.declared.Written.{Written}
+use Rattle.mask_records.specs.Placed.{Written}
 use Rattle.mask_records.specs.Written.{record_written}
 use Rattle.mask_files.specs.declared.Made.{Made}
 use Rattle.mask_files.specs.declared.Made.TheVariants as M

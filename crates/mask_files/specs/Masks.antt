@@ -1,24 +1,23 @@
 -- The mask file of a whole script, written at a place of a lent buffer. Definitions only.
-use Rattle.std.specs.Prelude.{ℕ, ◌+◌, ◌/◌, true, List, length, nat_le, nat_lt, Float}
+use Rattle.std.specs.Prelude.{ℕ, ◌+◌, ◌/◌, true, List, length, nat_le, nat_lt, Float, Some, None, Result, Ok, Err}
 use Rattle.sequences.specs.Pick.{pick}
 use Rattle.text.specs.Put.{splice}
 use Rattle.floats.specs.Names.{f32, div32, as_float}
-use Rattle.refusals.specs.Numbers.{number_of}
-use Rattle.refusals.specs.declared.Answer.{Answer}
-use Rattle.refusals.specs.declared.Answer.TheVariants as A
+use Rattle.refusals.specs.Numbers.{Answer, answer_of}
+use Rattle.refusals.specs.declared.Refusal.{Refusal}
 use Rattle.refusals.specs.declared.Refusal.TheVariants.{Size, Script, Room}
 use Rattle.settings.specs.Settings.{lawful_rate}
 use Rattle.mask_gains.specs.Bins.{logs_of}
 use Rattle.script.specs.declared.fields.Field.{Field}
 use Rattle.script.specs.declared.fields.Field.TheVariants as F
-use Rattle.script.specs.declared.Read.{Read}
-use Rattle.script.specs.declared.Read.TheVariants as S
-use Rattle.script.specs.Field.{read_of}
+use Rattle.script.specs.Field.{Read, read_of}
 use Rattle.listing.specs.Turns.{turns_of}
 use Rattle.mask_laws.specs.Files.{Record}
-use Rattle.mask_files.specs.declared.Filed.{Filed}
-use Rattle.mask_files.specs.declared.Filed.TheVariants.{Upto, Refused}
 use Rattle.mask_files.specs.Records.{filed_of, records_in}
+
+-- the place after the records, or why there are none
+abbrev pub Filed : Type 0
+Filed = Result ℕ Refusal
 
 -- the rate of a run before its first field
 abbrev pub standard : Float
@@ -40,9 +39,9 @@ rate_in F.Reserve = standard
 rate_in (F.ReservedTrigger s i) = standard
 
 abbrev pub rate_by : Read → Float
-rate_by (S.Field f k) = rate_in f
-rate_by (S.Bad r) = standard
-rate_by S.End = standard
+rate_by (Ok (Some (f, k))) = rate_in f
+rate_by (Err r) = standard
+rate_by (Ok None) = standard
 
 -- the rate that the script's first field gives. A script whose first field gives no lawful rate goes bad there and has no frame: which rate its bins go by is then of no consequence.
 unfoldable pub script_rate : List ℕ → Float
@@ -61,14 +60,13 @@ records_of script size depth = records_in depth (logs_for script size) (turns_of
 
 -- 0 where the records are written
 abbrev pub filed_number : Filed → ℕ
-filed_number (Upto after) = 0
-filed_number (Refused r) = number_of r
+filed_number filed = answer_of filed
 
 -- what ended the records, and then 13
 abbrev pub placed_by : List ℕ → Answer → List ℕ → ℕ → Filed × List ℕ
-placed_by bytes (A.Refused r) out at = (Refused r, out)
-placed_by bytes A.Taken out at =
-    pick (nat_le (at + length bytes) (length out)) (Upto (at + length bytes), splice out at bytes) (Refused Room, out)
+placed_by bytes (Err r) out at = (Err r, out)
+placed_by bytes (Ok tt) out at =
+    pick (nat_le (at + length bytes) (length out)) (Ok (at + length bytes), splice out at bytes) (Err Room, out)
 
 abbrev pub filed_into : List ℕ × Answer → List ℕ → ℕ → Filed × List ℕ
 filed_into filed out at = placed_by filed.0 filed.1 out at
@@ -76,7 +74,7 @@ filed_into filed out at = placed_by filed.0 filed.1 out at
 -- the place after the records, and the buffer afterwards; a refusal leaves it as it was
 unfoldable pub masks_of : List ℕ → ℕ → Float → List ℕ → ℕ → Filed × List ℕ
 masks_of script size depth out at =
-    pick (nat_lt size 1) (Refused Size, out)
-    (pick (nat_lt 16384 size) (Refused Size, out)
-    (pick (nat_lt 60000 (length script)) (Refused Script, out)
+    pick (nat_lt size 1) (Err Size, out)
+    (pick (nat_lt 16384 size) (Err Size, out)
+    (pick (nat_lt 60000 (length script)) (Err Script, out)
     (filed_into (filed_of depth (logs_for script size) (turns_of script)) out at)))

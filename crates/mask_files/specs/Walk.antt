@@ -1,6 +1,6 @@
 -- A walk over the accepted frames of a script, a record a step. Definitions only.
-use Rattle.std.specs.Prelude.{ℕ, ◌+◌, List, length, Float}
-use Rattle.refusals.specs.declared.Answer.{Answer}
+use Rattle.std.specs.Prelude.{ℕ, ◌+◌, List, length, Float, Ok, Err}
+use Rattle.refusals.specs.Numbers.{Answer}
 use Rattle.floats.specs.Word.{grown}
 use Rattle.script_steps.specs.Steps.{fresh}
 use Rattle.windows.specs.declared.Frame.{Frame}
@@ -9,8 +9,7 @@ use Rattle.listing.specs.declared.lines.Line.TheVariants as L
 use Rattle.listing.specs.declared.turns.Reached.{Reached}
 use Rattle.listing.specs.declared.turns.Until.TheVariants as U
 use Rattle.listing.specs.Reaching.{inside_of, reached_of}
-use Rattle.mask_records.specs.declared.Written.{Written}
-use Rattle.mask_records.specs.declared.Written.TheVariants as W
+use Rattle.mask_records.specs.Placed.{Written}
 use Rattle.mask_records.specs.Written.{record_written}
 use Rattle.mask_files.specs.declared.Made.{Made}
 use Rattle.mask_files.specs.declared.Made.TheVariants as M
@@ -31,8 +30,8 @@ walk_stepped walk made = record { walk = walk; made = made }
 
 -- a record's refusal is told with the number of the frame's field
 abbrev pub made_of : ℕ → Written → Made
-made_of n (W.Upto after) = M.Record after
-made_of n (W.Refused r) = M.Refused n r
+made_of n (Ok after) = M.Record after
+made_of n (Err r) = M.Refused n r
 
 -- the step, and then scratch and out afterwards
 abbrev pub written_by : Walk → ℕ → Written × List Float × List ℕ → Step × List Float × List ℕ

@@ -2,7 +2,6 @@
 // is gone through twice: to see how it ends and how many bytes there are, and then to write them.
 ghost use Rattle.std.specs.Prelude.{◌≡◌, ◌+◌, ◌≤◌, true, length};
 ghost use Rattle.text.specs.Put.{splice};
-ghost use Rattle.refusals.specs.declared.Answer.TheVariants as Answer;
 ghost use Rattle.mask_gains.specs.Logs.{lawful_logs};
 ghost use Rattle.listing.specs.Turns.{turns_of};
 ghost use Rattle.mask_records.specs.Placed.{record_size};
@@ -11,8 +10,8 @@ ghost use Rattle.mask_files.specs.Masks.{bins_of, logs_for, filed_into, masks_of
 ghost use Rattle.mask_files.specs.Walk.{measured_of};
 
 use crate::frames::{next_record, start};
-use crate::{Filed, Made, Measured};
-use refusals::{Answer, Refusal};
+use crate::{Made, Measured};
+use refusals::Refusal;
 
 // Each record goes to the start of the same bytes.
 fn measure(
@@ -39,7 +38,7 @@ fn measure(
                 walk = next;
             }
             Made::Refused(_, refusal) => {
-                let answer = Answer::Refused(refusal);
+                let answer = Err(refusal);
                 return Measured { bytes, answer };
             }
             Made::Last(line) => {
@@ -61,7 +60,7 @@ fn write_records(
 ) -> usize
     requires script_fits { length script.now ≤ 60000 }
     requires logs_lawful { (1 ≤ length logs.now) × (length logs.now ≤ 8193) × (lawful_logs logs.now ≡ true) × (length scratch.old ≡ length logs.now) }
-    requires taken_with_room { ((filed_of depth_db logs.now (turns_of script.now)).1 ≡ Answer.Taken) × (at + length (filed_of depth_db logs.now (turns_of script.now)).0 ≤ length out.old) }
+    requires taken_with_room { ((filed_of depth_db logs.now (turns_of script.now)).1 ≡ Ok tt) × (at + length (filed_of depth_db logs.now (turns_of script.now)).0 ≤ length out.old) }
     ensures { (result ≡ at + length (filed_of depth_db logs.now (turns_of script.now)).0) × (out.new ≡ splice out.old at (filed_of depth_db logs.now (turns_of script.now)).0) }
 {
     let mut walk = start();
@@ -94,28 +93,21 @@ fn place(
     lent: &mut [u8],
     out: &mut [u8],
     at: usize,
-) -> Filed
+) -> Result<usize, Refusal>
     requires script_fits { length script.now ≤ 60000 }
     requires logs_lawful { (1 ≤ length logs.now) × (length logs.now ≤ 8193) × (lawful_logs logs.now ≡ true) × (length scratch.old ≡ length logs.now) }
     requires lent_fits { record_size (length logs.now) ≤ length lent.old }
     ensures { (result, out.new) ≡ filed_into (filed_of depth_db logs.now (turns_of script.now)) out.old at }
 {
     let measured = measure(script, depth_db, logs, scratch, lent);
-    let bytes = measured.bytes;
-    let answer = measured.answer;
-    match answer {
-        Answer::Refused(refusal) => Filed::Refused(refusal),
-        Answer::Taken => {
-            if out.len() < at {
-                return Filed::Refused(Refusal::Room);
-            }
-            if out.len() - at < bytes {
-                return Filed::Refused(Refusal::Room);
-            }
-            let after = write_records(script, depth_db, logs, scratch, out, at);
-            Filed::Upto(after)
-        }
+    measured.answer?;
+    if out.len() < at {
+        return Err(Refusal::Room);
     }
+    if out.len() - at < measured.bytes {
+        return Err(Refusal::Room);
+    }
+    Ok(write_records(script, depth_db, logs, scratch, out, at))
 }
 
 // The records, with the bins' logarithms filled first.
@@ -128,12 +120,13 @@ fn file(
     lent: &mut [u8],
     out: &mut [u8],
     at: usize,
-) -> Filed
+) -> Result<usize, Refusal>
     requires sizes_fit { (1 ≤ fft_size) × (fft_size ≤ 16384) × (length script.now ≤ 60000) }
     requires lengths_agree { (length logs.old ≡ bins_of fft_size) × (length scratch.old ≡ bins_of fft_size) × (length lent.old ≡ 16402) }
     ensures { (result, out.new) ≡ filed_into (filed_of depth_db (logs_for script.now fft_size) (turns_of script.now)) out.old at }
 {
-    crate::rate::prepare(script, fft_size, logs);
+    // The size is lawful, and the logarithms are as many as it asks for: it does not refuse.
+    let _ = crate::rate::prepare(script, fft_size, logs);
     place(script, depth_db, logs, scratch, lent, out, at)
 }
 
@@ -152,17 +145,17 @@ fn longest_record() -> [u8; 16402]
 
 // The records of a script's accepted frames behind the first `at` bytes of `out`. A refusal leaves
 // `out` as it was.
-pub fn masks(script: &[u8], fft_size: usize, depth_db: f32, out: &mut [u8], at: usize) -> Filed
+pub fn masks(script: &[u8], fft_size: usize, depth_db: f32, out: &mut [u8], at: usize) -> Result<usize, Refusal>
     ensures { (result, out.new) ≡ masks_of script.now fft_size depth_db out.old at }
 {
     if fft_size < 1 {
-        return Filed::Refused(Refusal::Size);
+        return Err(Refusal::Size);
     }
     if fft_size > mask_gains::MAX_FFT_SIZE {
-        return Filed::Refused(Refusal::Size);
+        return Err(Refusal::Size);
     }
     if script.len() > script::MAX_SCRIPT_BYTES {
-        return Filed::Refused(Refusal::Script);
+        return Err(Refusal::Script);
     }
     let n = fft_size / 2 + 1;
     let mut logs = bins();

@@ -4,7 +4,7 @@ ghost use Rattle.mask_files.specs.Walk.{walk_start, walk_after, made_of, walk_st
 
 use crate::{Made, Step, Walk};
 use listing::{Line, Reached};
-use mask_records::Written;
+use refusals::Refusal;
 
 // The walk before a script's first field.
 pub fn start() -> Walk
@@ -29,12 +29,12 @@ fn behind(reached: Reached) -> Walk
     }
 }
 
-fn made(n: u64, written: Written) -> Made
+fn made(n: u64, written: Result<usize, Refusal>) -> Made
     ensures { result ≡ made_of n written }
 {
     match written {
-        Written::Upto(after) => Made::Record(after),
-        Written::Refused(refusal) => Made::Refused(n, refusal),
+        Ok(after) => Made::Record(after),
+        Err(refusal) => Made::Refused(n, refusal),
     }
 }
 

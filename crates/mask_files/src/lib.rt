@@ -2,7 +2,7 @@
 #![tactic(auto)]
 
 use listing::Line;
-use refusals::{Answer, Refusal};
+use refusals::Refusal;
 use script_steps::Run;
 
 mod file;
@@ -42,12 +42,5 @@ pub struct Step {
 #[derive(Clone, Copy)]
 struct Measured {
     bytes: usize,
-    answer: Answer,
-}
-
-// The place after the records, or why there are none.
-#[derive(Clone, Copy)]
-pub enum Filed {
-    Upto(usize),
-    Refused(Refusal),
+    answer: Result<(), Refusal>,
 }

@@ -3,8 +3,8 @@ ghost use Rattle.std.specs.Prelude.{◌≡◌};
 ghost use Rattle.mask_gains.specs.Bins.{bin_table_of};
 ghost use Rattle.mask_files.specs.Masks.{rate_in, script_rate};
 
-use refusals::Answer;
-use script::{Field, Read};
+use refusals::Refusal;
+use script::Field;
 
 fn rate_in(field: Field) -> f32
     ensures { result ≡ rate_in field }
@@ -36,16 +36,14 @@ fn rate_in(field: Field) -> f32
 fn rate(script: &[u8]) -> f32
     ensures { result ≡ script_rate script.now }
 {
-    let read = script::read_field(script, true);
-    match read {
-        Read::Field(field, _) => rate_in(field),
-        Read::Bad(_) => 48000.0,
-        Read::End => 48000.0,
+    match script::read_field(script, true) {
+        Ok(Some((field, _))) => rate_in(field),
+        Ok(None) | Err(_) => 48000.0,
     }
 }
 
 // The bins' logarithms, as a walk over the script takes them: one more place than half the size.
-pub fn prepare(script: &[u8], fft_size: usize, logs: &mut [f32]) -> Answer
+pub fn prepare(script: &[u8], fft_size: usize, logs: &mut [f32]) -> Result<(), Refusal>
     ensures { (result, logs.new) ≡ bin_table_of (script_rate script.now) fft_size logs.old }
 {
     mask_gains::bin_table(rate(script), fft_size, logs)

@@ -8,7 +8,7 @@ use lib.Ieee.{Float, le, eq}
 use Rattle.sequences.specs.Pick.{pick, took}
 use Rattle.floats.specs.Names.{zero32}
 use Rattle.windows.specs.declared.Frame.{Frame}
-use Rattle.refusals.specs.declared.Answer.{Answer}
+use Rattle.refusals.specs.Numbers.{Answer}
 use Rattle.mask_gains.specs.Logs.{lawful_logs}
 use Rattle.mask_gains.specs.Gains.{level_of, quiet_of, ones_of, shaped_of, gains_of}
 

@@ -1,11 +1,10 @@
 -- The bin table, line by line as the Rust's `MaskWorkspace::prepare`, with 01's refusals 1, 3 and 5 in this order. Definitions only.
-use Rattle.std.specs.Prelude.{ℕ, ◌+◌, ◌/◌, List, eqb, ltb, length, Float}
+use Rattle.std.specs.Prelude.{ℕ, ◌+◌, ◌/◌, List, eqb, ltb, length, Float, Ok, Err}
 use Rattle.sequences.specs.Pick.{pick}
 use Rattle.sequences.specs.Table.{table}
 use Rattle.floats.specs.Names.{mul32, div32, zero32, as_float}
 use Rattle.elementary.specs.Log2.{log2_of}
-use Rattle.refusals.specs.declared.Answer.{Answer}
-use Rattle.refusals.specs.declared.Answer.TheVariants.{Taken, Refused}
+use Rattle.refusals.specs.Numbers.{Answer}
 use Rattle.refusals.specs.declared.Refusal.TheVariants.{Rate, Size, Lengths}
 use Rattle.settings.specs.Settings.{lawful_rate}
 
@@ -20,10 +19,10 @@ logs_of hz n = table n (log_at hz)
 unfoldable pub bin_table_of : Float → ℕ → List Float → Answer × List Float
 bin_table_of rate size old =
     pick (lawful_rate rate)
-    (pick (ltb size 1) (Refused Size, old)
-    (pick (ltb 16384 size) (Refused Size, old)
+    (pick (ltb size 1) (Err Size, old)
+    (pick (ltb 16384 size) (Err Size, old)
     (pick (eqb (length old) (size / 2 + 1))
     -- let bin_hz = sample_rate / fft_size as f32;
-    (Taken, logs_of (div32 rate (as_float size)) (length old))
-    (Refused Lengths, old))))
-    (Refused Rate, old)
+    (Ok tt, logs_of (div32 rate (as_float size)) (length old))
+    (Err Lengths, old))))
+    (Err Rate, old)

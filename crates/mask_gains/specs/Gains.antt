@@ -1,13 +1,12 @@
 -- The gains of a mask, line by line as the Rust's `Mask::gains`, with 01's refusals 5 and 6 in this order. Definitions only.
-use Rattle.std.specs.Prelude.{Bool, ◌||◌, List, eqb, length, Float}
+use Rattle.std.specs.Prelude.{Bool, ◌||◌, List, eqb, length, Float, Ok, Err}
 use Rattle.std.specs.Float.Ieee.{neg, le, eq}
 use Rattle.sequences.specs.Pick.{pick}
 use Rattle.sequences.specs.Table.{table}
 use Rattle.floats.specs.Names.{f32, sub32, mul32, zero32, one}
 use Rattle.floats.specs.Choose.{clamp}
 use Rattle.powers.specs.Power.{db_to_gain}
-use Rattle.refusals.specs.declared.Answer.{Answer}
-use Rattle.refusals.specs.declared.Answer.TheVariants.{Taken, Refused}
+use Rattle.refusals.specs.Numbers.{Answer}
 use Rattle.refusals.specs.declared.Refusal.TheVariants.{Lengths, Logs}
 use Rattle.windows.specs.declared.Window.{Window}
 use Rattle.windows.specs.declared.Frame.{Frame}
@@ -28,27 +27,27 @@ quiet_of depth activity = le depth zero32 || eq activity zero32
 
 -- output.fill(1.0), under logs that refusal 6 lets pass
 unfoldable pub ones_of : List Float → List Float → Answer × List Float
-ones_of logs output = pick (lawful_logs logs) (Taken, table (length output) (λ i. one)) (Refused Logs, output)
+ones_of logs output = pick (lawful_logs logs) (Ok tt, table (length output) (λ i. one)) (Err Logs, output)
 
 -- the openness of each bin and its gain, under such logs
 unfoldable pub shaped_of : List Window → Float → List Float → List Float → List Float → Answer × List Float × List Float
 shaped_of ws level logs scratch output =
     let n = length output in
     pick (lawful_logs logs)
-    (Taken, table n (open_at ws logs), table n (λ i. gain_of level (open_at ws logs i)))
-    (Refused Logs, scratch, output)
+    (Ok tt, table n (open_at ws logs), table n (λ i. gain_of level (open_at ws logs i)))
+    (Err Logs, scratch, output)
 
 -- the answer, and then scratch and output afterwards
 unfoldable pub gains_of : Frame → Float → List Float → List Float → List Float → Answer × List Float × List Float
 gains_of f depth logs scratch output =
     let n = length output in
-    let ones : Answer × List Float × List Float = (Taken, scratch, table n (λ i. one)) in
+    let ones : Answer × List Float × List Float = (Ok tt, scratch, table n (λ i. one)) in
     pick (eqb n (length scratch))
     (pick (eqb n (length logs))
     (pick (lawful_logs logs)
     (pick (le depth zero32) ones
     (pick (eq f.activity zero32) ones
-    (Taken, table n (open_at f.windows logs), table n (λ i. gain_of (level_of depth f.activity) (open_at f.windows logs i)))))
-    (Refused Logs, scratch, output))
-    (Refused Lengths, scratch, output))
-    (Refused Lengths, scratch, output)
+    (Ok tt, table n (open_at f.windows logs), table n (λ i. gain_of (level_of depth f.activity) (open_at f.windows logs i)))))
+    (Err Logs, scratch, output))
+    (Err Lengths, scratch, output))
+    (Err Lengths, scratch, output)

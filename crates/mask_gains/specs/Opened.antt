@@ -1,5 +1,5 @@
 -- What the windows open, line by line as the Rust's `Mask::gains`, with 01's refusals 5 and 6 in this order. Definitions only.
-use Rattle.std.specs.Prelude.{ℕ, Bool, not, cond, ◌&&◌, List, eqb, ltb, length, get_or, Float}
+use Rattle.std.specs.Prelude.{ℕ, Bool, not, cond, ◌&&◌, List, eqb, ltb, length, get_or, Float, Ok, Err}
 use Rattle.std.specs.Float.{nan}
 use Rattle.std.specs.Float.Ieee.{lt, le}
 use Rattle.sequences.specs.Pick.{pick}
@@ -7,8 +7,7 @@ use Rattle.sequences.specs.Table.{table}
 use Rattle.sequences.specs.Walk.{walk}
 use Rattle.floats.specs.Names.{add32, sub32, zero32}
 use Rattle.floats.specs.Choose.{max}
-use Rattle.refusals.specs.declared.Answer.{Answer}
-use Rattle.refusals.specs.declared.Answer.TheVariants.{Taken, Refused}
+use Rattle.refusals.specs.Numbers.{Answer}
 use Rattle.refusals.specs.declared.Refusal.TheVariants.{Lengths, Logs}
 use Rattle.windows.specs.declared.Window.{Window}
 use Rattle.mask_gains.specs.Logs.{lawful_logs}
@@ -36,5 +35,5 @@ unfoldable pub opened_of : List Window → List Float → List Float → Answer 
 opened_of ws logs scratch =
     let n = length scratch in
     pick (eqb n (length logs))
-    (pick (lawful_logs logs) (Taken, table n (open_at ws logs)) (Refused Logs, scratch))
-    (Refused Lengths, scratch)
+    (pick (lawful_logs logs) (Ok tt, table n (open_at ws logs)) (Err Logs, scratch))
+    (Err Lengths, scratch)

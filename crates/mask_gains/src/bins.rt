@@ -2,7 +2,7 @@
 ghost use Rattle.std.specs.Prelude.{◌≡◌, length};
 ghost use Rattle.mask_gains.specs.Bins.{log_at, logs_of, bin_table_of};
 
-use refusals::{Answer, Refusal};
+use refusals::Refusal;
 
 // Added by 01: a larger size is refused.
 pub const MAX_FFT_SIZE: usize = 16384;
@@ -26,21 +26,21 @@ fn fill(bin_hz: f32, table: &mut [f32])
 }
 
 // The table that the Rust's `MaskWorkspace::prepare` fills, in lent places; 01 adds the refusals.
-pub fn bin_table(sample_rate: f32, fft_size: usize, table: &mut [f32]) -> Answer
+pub fn bin_table(sample_rate: f32, fft_size: usize, table: &mut [f32]) -> Result<(), Refusal>
     ensures { (result, table.new) ≡ bin_table_of sample_rate fft_size table.old }
 {
     if settings::lawful_rate(sample_rate) {
         if fft_size < 1 {
-            return Answer::Refused(Refusal::Size);
+            return Err(Refusal::Size);
         }
         if fft_size > MAX_FFT_SIZE {
-            return Answer::Refused(Refusal::Size);
+            return Err(Refusal::Size);
         }
         if table.len() == fft_size / 2 + 1 {
             fill(sample_rate / floats::u64_to_f32(fft_size as u64), table);
-            return Answer::Taken;
+            return Ok(());
         }
-        return Answer::Refused(Refusal::Lengths);
+        return Err(Refusal::Lengths);
     }
-    Answer::Refused(Refusal::Rate)
+    Err(Refusal::Rate)
 }

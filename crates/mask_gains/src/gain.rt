@@ -6,7 +6,7 @@ ghost use Rattle.floats.specs.Names.{zero32, one};
 ghost use Rattle.mask_gains.specs.Gains.{level_of, gain_of, quiet_of, ones_of, shaped_of, gains_of};
 
 use crate::{logs, touch};
-use refusals::{Answer, Refusal};
+use refusals::Refusal;
 use windows::{Frame, Window};
 
 // What a shut bin is brought to, in decibels.
@@ -49,17 +49,13 @@ fn shape(
     logs: &[f32],
     scratch: &mut [f32],
     output: &mut [f32],
-) -> Answer
+) -> Result<(), Refusal>
     requires { (length output.old ≡ length scratch.old) × (length output.old ≡ length logs.now) }
     ensures { (result, scratch.new, output.new) ≡ shaped_of windows level logs.now scratch.old output.old }
 {
-    match touch::open_bins(windows, logs, scratch) {
-        Answer::Taken => {
-            finish(level, gain_at(level, 0.0), scratch, output);
-            Answer::Taken
-        }
-        Answer::Refused(refusal) => Answer::Refused(refusal),
-    }
+    touch::open_bins(windows, logs, scratch)?;
+    finish(level, gain_at(level, 0.0), scratch, output);
+    Ok(())
 }
 
 // Nothing to attenuate.
@@ -81,14 +77,14 @@ fn fill_ones(output: &mut [f32])
 }
 
 // Refusal 6 comes before the ones.
-fn ones(logs: &[f32], output: &mut [f32]) -> Answer
+fn ones(logs: &[f32], output: &mut [f32]) -> Result<(), Refusal>
     ensures { (result, output.new) ≡ ones_of logs.now output.old }
 {
     if logs::lawful(logs) {
         fill_ones(output);
-        return Answer::Taken;
+        return Ok(());
     }
-    Answer::Refused(Refusal::Logs)
+    Err(Refusal::Logs)
 }
 
 // The Rust's `Mask::gains`, with its panics as refusals. Scratch holds the openness of each bin.
@@ -98,14 +94,14 @@ pub fn gains(
     logs: &[f32],
     scratch: &mut [f32],
     output: &mut [f32],
-) -> Answer
+) -> Result<(), Refusal>
     ensures { (result, scratch.new, output.new) ≡ gains_of frame depth_db logs.now scratch.old output.old }
 {
     if output.len() != scratch.len() {
-        return Answer::Refused(Refusal::Lengths);
+        return Err(Refusal::Lengths);
     }
     if output.len() != logs.len() {
-        return Answer::Refused(Refusal::Lengths);
+        return Err(Refusal::Lengths);
     }
     if quiet(depth_db, frame.activity) {
         return ones(logs, output);

@@ -6,7 +6,7 @@ ghost use Rattle.mask_gains.specs.Opened.{open_at, opened_of};
 ghost use Rattle.mask_gains.specs.Walk.{Numbers, Part, Raised, Sorted};
 
 use crate::logs;
-use refusals::{Answer, Refusal};
+use refusals::Refusal;
 use windows::Window;
 
 // Nothing in scratch is ever a NaN, so that the Rust's `max` is one test.
@@ -59,16 +59,16 @@ fn clear(scratch: &mut [f32])
 }
 
 // The openness of each bin under the windows. A refusal leaves scratch as it was.
-pub fn open_bins(windows: [Window; 192], logs: &[f32], scratch: &mut [f32]) -> Answer
+pub fn open_bins(windows: [Window; 192], logs: &[f32], scratch: &mut [f32]) -> Result<(), Refusal>
     ensures { (result, scratch.new) ≡ opened_of windows logs.now scratch.old }
 {
     if scratch.len() != logs.len() {
-        return Answer::Refused(Refusal::Lengths);
+        return Err(Refusal::Lengths);
     }
     if logs::lawful(logs) {
         clear(scratch);
         walk(windows, logs, scratch);
-        return Answer::Taken;
+        return Ok(());
     }
-    Answer::Refused(Refusal::Logs)
+    Err(Refusal::Logs)
 }

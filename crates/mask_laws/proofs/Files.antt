@@ -1,4 +1,5 @@
 -- A file of records is read back, record after record.
+use Rattle.std.specs.Prelude.{None, Ok}
 use Prim.Native.Nat.{ℕ}
 use mathlib.Core.Path.{◌≡◌, refl, sym, ◌∙◌, subst}
 use mathlib.Core.List.{List, [], ◌∷◌}
@@ -7,7 +8,6 @@ use lib.ListN.{length, drop}
 use lib.Seq.{drop_at}
 use Rattle.sequences.specs.Every.{Every}
 use Rattle.sequences.specs.Pick.{picked, took}
-use Rattle.mask_records.specs.declared.Read.TheVariants.{End}
 use Rattle.mask_records.specs.Bytes.{record_of, file_of}
 use Rattle.mask_records.specs.Placed.{record_size}
 use Rattle.mask_records.specs.Found.{record_read}
@@ -15,7 +15,7 @@ use Rattle.mask_records.proofs.Pairs.{record_length}
 use Rattle.mask_laws.specs.Files.{Record, WholeRecord, ReadsAs}
 use Rattle.mask_laws.proofs.ReadBack.{read_back}
 
-no_bytes : (lent : List ℕ) → record_read [] lent ≡ (End, lent)
+no_bytes : (lent : List ℕ) → record_read [] lent ≡ (Ok None, lent)
 unfolding record_read
 no_bytes lent = sym (took _ _ _ _ refl refl)
 

@@ -1,4 +1,5 @@
 -- What a frame's record holds, and that it is read back.
+use Rattle.std.specs.Prelude.{Some, Ok, Err}
 use Prim.Native.Nat.{ℕ, ◌+◌, ◌≤◌, ◌<◌}
 use native.Mathlib.Omega.{arith}
 use mathlib.Core.Path.{◌≡◌, refl, sym, ap, ◌∙◌}
@@ -22,14 +23,11 @@ use Rattle.refusals.specs.declared.Refusal.TheVariants.{Lengths, Logs, Room, Att
 use Rattle.windows.specs.declared.Frame.{Frame}
 use Rattle.mask_gains.specs.Logs.{lawful_logs}
 use Rattle.mask_gains.specs.Gains.{quiet_of}
-use Rattle.mask_records.specs.declared.Written.{Written}
-use Rattle.mask_records.specs.declared.Written.TheVariants.{Upto, Refused}
-use Rattle.mask_records.specs.declared.Read.TheVariants as R
+use Rattle.mask_records.specs.Placed.{Written, record_size}
 use Rattle.mask_records.specs.Bytes.{record_of}
 use Rattle.mask_records.specs.Entries.{attenuation_at, is_number, entry_for}
-use Rattle.mask_records.specs.Placed.{record_size}
 use Rattle.mask_records.specs.Written.{entries_of, scratch_of, record_written}
-use Rattle.mask_records.specs.Found.{record_read}
+use Rattle.mask_records.specs.Found.{record_read, found}
 use Rattle.mask_records.proofs.Answers.{apart}
 use Rattle.mask_records.proofs.Sought.{among-at}
 use Rattle.mask_records.proofs.Ways.{quiet-entries}
@@ -60,11 +58,11 @@ module _ (f : Frame) (depth : Float) (logs : List Float) where
 abbrev Both : Type 0
 Both = Written × List Float × List ℕ
 
-refused_not : (k : Refusal) (p : ℕ) → Refused k ≡ Upto p → ⊥
+refused_not : (k : Refusal) (p : ℕ) → ◌≡◌ {A = Written} (Err k) (Ok p) → ⊥
 refused_not k p e = apart p k (sym e)
 
 abbrev Placed : ℕ → Both → Type 0
-Placed p x = x.0 ≡ Upto p
+Placed p x = x.0 ≡ Ok p
 
 pub record Accepted (sample : ℕ) (f : Frame) (depth : Float) (logs scratch : List Float) (out : List ℕ) (at p : ℕ) : Type 0 where
   pub some : 1 ≤ length logs
@@ -74,31 +72,31 @@ pub record Accepted (sample : ℕ) (f : Frame) (depth : Float) (logs scratch : L
   pub scratch_is : (record_written sample f depth logs scratch out at).1 ≡ scratch_of f depth logs scratch
   pub out_is : (record_written sample f depth logs scratch out at).2 ≡ splice out at (record_of sample (entries_of f depth logs))
 
-placed_at : (p q : ℕ) → Upto q ≡ Upto p → p ≡ q
+placed_at : (p q : ℕ) → ◌≡◌ {A = Written} (Ok q) (Ok p) → p ≡ q
 placed_at p q e = cc
 
 module _ (sample : ℕ) (f : Frame) (depth : Float) (logs scratch : List Float) (out : List ℕ) (at p : ℕ) where
-  pub accepted : (record_written sample f depth logs scratch out at).0 ≡ Upto p → Accepted sample f depth logs scratch out at p
+  pub accepted : (record_written sample f depth logs scratch out at).0 ≡ Ok p → Accepted sample f depth logs scratch out at p
   unfolding record_written
   accepted e =
       let n = length logs in
-      let done : Both = (Upto (at + record_size n), scratch_of f depth logs scratch, splice out at (record_of sample (entries_of f depth logs))) in
-      let x6 : Both = pick (leb (at + record_size n) (length out)) done (Refused Room, scratch, out) in
-      let x5 : Both = pick (all (λ i. is_number (attenuation_at f depth logs i)) n) x6 (Refused Attenuation, scratch, out) in
-      let x4 : Both = pick (ltb 8193 n) (Refused Record, scratch, out) x5 in
-      let x3 : Both = pick (ltb n 1) (Refused Record, scratch, out) x4 in
-      let x2 : Both = pick (lawful_logs logs) x3 (Refused Logs, scratch, out) in
-      let a1 = went_left (Placed p) x2 (Refused Lengths, scratch, out) (eqb (length scratch) n) (refused_not Lengths p) e in
-      let e2 : x2.0 ≡ Upto p = ap (λ (x : Both). x.0) (sym a1.1) ∙ e in
-      let a2 = went_left (Placed p) x3 (Refused Logs, scratch, out) (lawful_logs logs) (refused_not Logs p) e2 in
-      let e3 : x3.0 ≡ Upto p = ap (λ (x : Both). x.0) (sym a2.1) ∙ e2 in
-      let a3 = went_right (Placed p) (Refused Record, scratch, out) x4 (ltb n 1) (refused_not Record p) e3 in
-      let e4 : x4.0 ≡ Upto p = ap (λ (x : Both). x.0) (sym a3.1) ∙ e3 in
-      let a4 = went_right (Placed p) (Refused Record, scratch, out) x5 (ltb 8193 n) (refused_not Record p) e4 in
-      let e5 : x5.0 ≡ Upto p = ap (λ (x : Both). x.0) (sym a4.1) ∙ e4 in
-      let a5 = went_left (Placed p) x6 (Refused Attenuation, scratch, out) (all (λ i. is_number (attenuation_at f depth logs i)) n) (refused_not Attenuation p) e5 in
-      let e6 : x6.0 ≡ Upto p = ap (λ (x : Both). x.0) (sym a5.1) ∙ e5 in
-      let a6 = went_left (Placed p) done (Refused Room, scratch, out) (leb (at + record_size n) (length out)) (refused_not Room p) e6 in
+      let done : Both = (Ok (at + record_size n), scratch_of f depth logs scratch, splice out at (record_of sample (entries_of f depth logs))) in
+      let x6 : Both = pick (leb (at + record_size n) (length out)) done (Err Room, scratch, out) in
+      let x5 : Both = pick (all (λ i. is_number (attenuation_at f depth logs i)) n) x6 (Err Attenuation, scratch, out) in
+      let x4 : Both = pick (ltb 8193 n) (Err Record, scratch, out) x5 in
+      let x3 : Both = pick (ltb n 1) (Err Record, scratch, out) x4 in
+      let x2 : Both = pick (lawful_logs logs) x3 (Err Logs, scratch, out) in
+      let a1 = went_left (Placed p) x2 (Err Lengths, scratch, out) (eqb (length scratch) n) (refused_not Lengths p) e in
+      let e2 : x2.0 ≡ (Ok p) = ap (λ (x : Both). x.0) (sym a1.1) ∙ e in
+      let a2 = went_left (Placed p) x3 (Err Logs, scratch, out) (lawful_logs logs) (refused_not Logs p) e2 in
+      let e3 : x3.0 ≡ (Ok p) = ap (λ (x : Both). x.0) (sym a2.1) ∙ e2 in
+      let a3 = went_right (Placed p) (Err Record, scratch, out) x4 (ltb n 1) (refused_not Record p) e3 in
+      let e4 : x4.0 ≡ (Ok p) = ap (λ (x : Both). x.0) (sym a3.1) ∙ e3 in
+      let a4 = went_right (Placed p) (Err Record, scratch, out) x5 (ltb 8193 n) (refused_not Record p) e4 in
+      let e5 : x5.0 ≡ (Ok p) = ap (λ (x : Both). x.0) (sym a4.1) ∙ e4 in
+      let a5 = went_left (Placed p) x6 (Err Attenuation, scratch, out) (all (λ i. is_number (attenuation_at f depth logs i)) n) (refused_not Attenuation p) e5 in
+      let e6 : x6.0 ≡ (Ok p) = ap (λ (x : Both). x.0) (sym a5.1) ∙ e5 in
+      let a6 = went_left (Placed p) done (Err Room, scratch, out) (leb (at + record_size n) (length out)) (refused_not Room p) e6 in
       let is : record_written sample f depth logs scratch out at ≡ done = a1.1 ∙ a2.1 ∙ a3.1 ∙ a4.1 ∙ a5.1 ∙ a6.1 in
       record {
         some = ltb-false n 1 a3.0;
@@ -116,8 +114,8 @@ module _ (sample : ℕ) (f : Frame) (depth : Float) (logs scratch : List Float) 
       ap (drop at) (a.out_is ∙ append_assoc (take at out) r (drop (at + length r) out)) ∙ drop_at (take at out) (r ++ drop (at + length r) out) at (length-take-le at out (omega (arith, a.room)))
 
   -- written and read back: the same sample, count and entries, for every frame, where the lent slice has places enough
-  pub written_back : (record_written sample f depth logs scratch out at).0 ≡ Upto p → (lent : List ℕ) → length logs ≤ length lent
-      → record_read (drop at (record_written sample f depth logs scratch out at).2) lent ≡ (R.Found sample (length logs) (record_size (length logs)), entries_of f depth logs ++ drop (length logs) lent)
+  pub written_back : (record_written sample f depth logs scratch out at).0 ≡ Ok p → (lent : List ℕ) → length logs ≤ length lent
+      → record_read (drop at (record_written sample f depth logs scratch out at).2) lent ≡ (Ok (Some (found sample (length logs) (record_size (length logs)))), entries_of f depth logs ++ drop (length logs) lent)
   written_back e lent l =
       let a = accepted e in
       let es = entries_of f depth logs in

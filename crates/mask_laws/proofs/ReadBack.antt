@@ -1,4 +1,5 @@
 -- A record that was written is read back: sample, count and entries, whatever stands after it.
+use Rattle.std.specs.Prelude.{Some, Ok, Err}
 use Prim.Native.Nat.{ℕ, ◌+◌, ◌*◌, ◌/◌, ◌%◌, ◌≤◌, ◌<◌}
 use native.Mathlib.Nat.{div-add-mod'}
 use native.Mathlib.Omega.{arith}
@@ -15,10 +16,9 @@ use Rattle.sequences.specs.Table.{table, table_same, table-own}
 use Rattle.big_endian.specs.Numbers.{be16, be32, be64}
 use Rattle.mask_records.specs.Decibels.{is_entry}
 use Rattle.refusals.specs.declared.Refusal.TheVariants.{Room}
-use Rattle.mask_records.specs.declared.Read.TheVariants.{Found, Refused}
 use Rattle.mask_records.specs.Bytes.{head_of, pairs_of, record_of}
 use Rattle.mask_records.specs.Placed.{record_size}
-use Rattle.mask_records.specs.Found.{count_in, entry_in, headed, record_read}
+use Rattle.mask_records.specs.Found.{count_in, entry_in, headed, record_read, found}
 use Rattle.mask_records.proofs.Pairs.{pairs_length, pairs_high, pairs_low, head_length, record_parts, record_length}
 
 module _ (sample : ℕ) (es rest : List ℕ) where
@@ -83,7 +83,7 @@ module _ (sample : ℕ) (es rest : List ℕ) where
 
     module _ (known : (i : ℕ) → i < length es → is_entry (get_or es i 0) ≡ true) (lent : List ℕ) where
       -- written and read back: the same sample, count and entries; 13 where the lent slice has fewer places
-      pub read_back : record_read s lent ≡ pick (leb (length es) (length lent)) (Found sample (length es) (record_size (length es)), es ++ drop (length es) lent) (Refused Room, lent)
+      pub read_back : record_read s lent ≡ pick (leb (length es) (length lent)) (Ok (Some (found sample (length es) (record_size (length es)))), es ++ drop (length es) lent) (Err Room, lent)
       unfolding record_read
       read_back =
           sym (passed _ _ _ (ne_eqb (length s) 0 (λ z. omega (arith, size))))

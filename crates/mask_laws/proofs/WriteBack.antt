@@ -1,4 +1,5 @@
 -- A record that was read is written back entry by entry as the same bytes.
+use Rattle.std.specs.Prelude.{Some, None, Ok, Err}
 use Prim.Native.Nat.{ℕ, ◌+◌, ◌*◌, ◌/◌, ◌%◌, ◌≤◌, ◌<◌}
 use native.Mathlib.Omega.{arith}
 use mathlib.Core.Path.{◌≡◌, refl, sym, ap, ◌∙◌, subst}
@@ -19,11 +20,10 @@ use Rattle.script_writer_laws.specs.Events.{Byte}
 use Rattle.script_writer_laws.proofs.Spelled.{behind, byte_again, bytes16_again, bytes64_again}
 use Rattle.mask_records.specs.Decibels.{is_entry}
 use Rattle.refusals.specs.declared.Refusal.TheVariants.{Room, Record}
-use Rattle.mask_records.specs.declared.Read.{Read}
-use Rattle.mask_records.specs.declared.Read.TheVariants.{End, Found, Refused}
+use Rattle.mask_records.specs.declared.Found.{Found}
+use Rattle.mask_records.specs.Found.{Read, count_in, entry_in, headed, record_read, found}
 use Rattle.mask_records.specs.Bytes.{head_of, pairs_of, record_of}
 use Rattle.mask_records.specs.Placed.{record_size}
-use Rattle.mask_records.specs.Found.{count_in, entry_in, headed, record_read}
 use Rattle.mask_records.proofs.Pairs.{pairs_length, pairs_high, pairs_low, record_parts}
 
 module _ (s : List ℕ) (bytes : Every Byte s) where
@@ -121,9 +121,9 @@ abbrev Handed : Type 0
 Handed = Read × List ℕ
 
 is_found : Read → Bool
-is_found End = false
-is_found (Found v n k) = true
-is_found (Refused r) = false
+is_found (Ok None) = false
+is_found (Ok (Some f)) = true
+is_found (Err r) = false
 
 abbrev IsFound : Handed → Type 0
 IsFound x = is_found x.0 ≡ true
@@ -137,25 +137,33 @@ pub record FoundIn (s lent : List ℕ) (v n k : ℕ) : Type 0 where
   pub taken : k ≡ record_size (count_in s)
   pub lent_is : (record_read s lent).1 ≡ table (count_in s) (entry_in s) ++ drop (count_in s) lent
 
-same-found : (v n k a b c : ℕ) → Found a b c ≡ Found v n k → (v ≡ a) × (n ≡ b) × (k ≡ c)
-same-found v n k a b c e = (cc, cc, cc)
+-- what was found, where anything was
+abbrev got : Found → Read → Found
+got d (Ok (Some f)) = f
+got d (Ok None) = d
+got d (Err r) = d
 
-pub found_in : (s lent : List ℕ) (v n k : ℕ) → (record_read s lent).0 ≡ Found v n k → FoundIn s lent v n k
+same-found : (v n k a b c : ℕ) → ◌≡◌ {A = Read} (Ok (Some (found a b c))) (Ok (Some (found v n k))) → (v ≡ a) × (n ≡ b) × (k ≡ c)
+same-found v n k a b c e =
+    let f : found v n k ≡ found a b c = ap (got (found v n k)) (sym e) in
+    (ap (λ (x : Found). x.sample) f, ap (λ (x : Found). x.count) f, ap (λ (x : Found). x.size) f)
+
+pub found_in : (s lent : List ℕ) (v n k : ℕ) → (record_read s lent).0 ≡ Ok (Some (found v n k)) → FoundIn s lent v n k
 unfolding record_read is_found
 found_in s lent v n k q =
     let c = count_in s in
-    let done : Handed = (Found (be64 s 3) c (record_size c), table c (entry_in s) ++ drop c lent) in
-    let x4 : Handed = pick (leb c (length lent)) done (Refused Room, lent) in
-    let x3 : Handed = pick (all (λ i. is_entry (entry_in s i)) c) x4 (Refused Record, lent) in
-    let x2 : Handed = pick (headed s) x3 (Refused Record, lent) in
+    let done : Handed = (Ok (Some (found (be64 s 3) c (record_size c))), table c (entry_in s) ++ drop c lent) in
+    let x4 : Handed = pick (leb c (length lent)) done (Err Room, lent) in
+    let x3 : Handed = pick (all (λ i. is_entry (entry_in s i)) c) x4 (Err Record, lent) in
+    let x2 : Handed = pick (headed s) x3 (Err Record, lent) in
     let e1 : is_found (record_read s lent).0 ≡ true = ap is_found q in
-    let a1 = went_right IsFound (End, lent) x2 (eqb (length s) 0) false≢true e1 in
+    let a1 = went_right IsFound (Ok None, lent) x2 (eqb (length s) 0) false≢true e1 in
     let e2 : is_found x2.0 ≡ true = ap (λ (x : Handed). is_found x.0) (sym a1.1) ∙ e1 in
-    let a2 = went_left IsFound x3 (Refused Record, lent) (headed s) false≢true e2 in
+    let a2 = went_left IsFound x3 (Err Record, lent) (headed s) false≢true e2 in
     let e3 : is_found x3.0 ≡ true = ap (λ (x : Handed). is_found x.0) (sym a2.1) ∙ e2 in
-    let a3 = went_left IsFound x4 (Refused Record, lent) (all (λ i. is_entry (entry_in s i)) c) false≢true e3 in
+    let a3 = went_left IsFound x4 (Err Record, lent) (all (λ i. is_entry (entry_in s i)) c) false≢true e3 in
     let e4 : is_found x4.0 ≡ true = ap (λ (x : Handed). is_found x.0) (sym a3.1) ∙ e3 in
-    let a4 = went_left IsFound done (Refused Room, lent) (leb c (length lent)) false≢true e4 in
+    let a4 = went_left IsFound done (Err Room, lent) (leb c (length lent)) false≢true e4 in
     let is : record_read s lent ≡ done = a1.1 ∙ a2.1 ∙ a3.1 ∙ a4.1 in
     let g = same-found v n k (be64 s 3) c (record_size c) (ap (λ (x : Handed). x.0) (sym is) ∙ q) in
     record {
@@ -179,7 +187,7 @@ head-room s e =
     leb→le _ _ (and_r t4 t6 (and_r t3 (t4 && t6) (and_r t1 (t3 && (t4 && t6)) (subst T (sym e) tt))))
 
 -- read, and written entry by entry: the same bytes
-pub written_again : (s : List ℕ) → Every Byte s → (lent : List ℕ) (v n k : ℕ) → (record_read s lent).0 ≡ Found v n k → record_of v (take n (record_read s lent).1) ≡ take k s
+pub written_again : (s : List ℕ) → Every Byte s → (lent : List ℕ) (v n k : ℕ) → (record_read s lent).0 ≡ Ok (Some (found v n k)) → record_of v (take n (record_read s lent).1) ≡ take k s
 written_again s b lent v n k q =
     let f = found_in s lent v n k q in
     let c = count_in s in

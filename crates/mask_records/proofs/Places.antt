@@ -1,4 +1,5 @@
 -- A record's head and its entries, one after the other at a place of a buffer.
+use Rattle.std.specs.Prelude.{Ok, Err}
 use Prim.Native.Nat.{ℕ, ◌+◌, ◌*◌, ◌/◌, ◌%◌, ◌≤◌, ◌<◌}
 use native.Mathlib.Omega.{arith}
 use mathlib.Core.Path.{◌≡◌, refl, sym, ap, ◌∙◌}
@@ -10,7 +11,6 @@ use Rattle.sequences.specs.Pick.{took, skipped}
 use Rattle.text.specs.Put.{Put, splice, buffer_of, place_of}
 use Rattle.text.proofs.Laws.{piece, spliced, seq, turn}
 use Rattle.refusals.specs.declared.Refusal.TheVariants.{Room}
-use Rattle.mask_records.specs.declared.Written.TheVariants.{Upto, Refused}
 use Rattle.mask_records.specs.Bytes.{head_of, pairs_of}
 use Rattle.mask_records.specs.Placed.{record_size, placed_of}
 use Rattle.mask_records.proofs.Pairs.{pairs_length, pairs_high, pairs_low, head_length, record_parts}
@@ -33,7 +33,7 @@ pairs_all o at es i e h =
 
 -- ---- the whole
 module _ (sample : ℕ) (es out : List ℕ) (at : ℕ) where
-  pub no_room : length out < at + record_size (length es) → (Refused Room, out) ≡ placed_of sample es out at
+  pub no_room : length out < at + record_size (length es) → (Err Room, out) ≡ placed_of sample es out at
   unfolding placed_of
   no_room h = skipped _ _ _ _ (lt-leb _ _ h) refl
 
@@ -47,11 +47,11 @@ module _ (sample : ℕ) (es out : List ℕ) (at : ℕ) where
     pub head-same : length p ≡ length out
     head-same = headed.same
 
-    pub placed : (q : List ℕ) → q ≡ splice p r (pairs_of es) → (Upto (at + record_size (length es)), q) ≡ placed_of sample es out at
+    pub placed : (q : List ℕ) → q ≡ splice p r (pairs_of es) → (Ok (at + record_size (length es)), q) ≡ placed_of sample es out at
     unfolding placed_of
     placed q s =
         let h = head_length sample (length es) in
         let k = pairs_length es in
         let both = seq headed (spliced (omega (arith, after-head, head-same)) s) in
         let t = both.fits (omega (arith, length-append (head_of sample (length es)) (pairs_of es))) in
-        took _ _ _ _ (le-leb _ _ fits) (ap (λ (x : List ℕ). (Upto (at + record_size (length es)), x)) (t.1 ∙ ap (splice out at) (sym (record_parts sample es))))
+        took _ _ _ _ (le-leb _ _ fits) (ap (λ (x : List ℕ). (Ok (at + record_size (length es)), x)) (t.1 ∙ ap (splice out at) (sym (record_parts sample es))))

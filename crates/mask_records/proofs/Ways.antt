@@ -1,4 +1,5 @@
 -- The ways through `write_record`: what its two branches answer is `record_written`.
+use Rattle.std.specs.Prelude.{Ok, Err}
 use Prim.Native.Nat.{ℕ, ◌+◌, ◌≤◌, ◌<◌}
 use mathlib.Core.Path.{◌≡◌, refl, sym, ap, ◌∙◌}
 use mathlib.Core.Bool.{Bool, true, false}
@@ -16,18 +17,16 @@ use Rattle.mask_records.specs.Decibels.{entry_of}
 use Rattle.mask_records.proofs.Nearest.{no_tenths}
 use Rattle.mask_records.proofs.Ruled.{first_entry}
 use Rattle.mask_records.proofs.Answers.{One, Both}
-use Rattle.refusals.specs.declared.Answer.{Answer}
+use Rattle.refusals.specs.Numbers.{Answer}
 use Rattle.refusals.specs.declared.Refusal.TheVariants.{Room, Attenuation}
 use Rattle.windows.specs.declared.Window.{Window}
 use Rattle.windows.specs.declared.Frame.{Frame}
 use Rattle.mask_gains.specs.Logs.{lawful_logs}
 use Rattle.mask_gains.specs.Opened.{open_at, opened_of}
 use Rattle.mask_gains.specs.Gains.{level_of, quiet_of}
-use Rattle.mask_records.specs.declared.Written.{Written}
-use Rattle.mask_records.specs.declared.Written.TheVariants.{Upto, Refused}
+use Rattle.mask_records.specs.Placed.{Written, record_size, placed_of}
 use Rattle.mask_records.specs.Bytes.{record_of}
 use Rattle.mask_records.specs.Entries.{entry_attenuation, attenuation_at, is_number, entry_for}
-use Rattle.mask_records.specs.Placed.{record_size, placed_of}
 use Rattle.mask_records.specs.Finished.{filled_of, finished_of}
 use Rattle.mask_records.specs.Written.{entries_of, scratch_of, record_written}
 
@@ -68,10 +67,10 @@ module _ (f : Frame) (depth : Float) (logs : List Float) (q : quiet_of depth f.a
 
 module _ (sample : ℕ) (f : Frame) (depth : Float) (logs scratch : List Float) (out : List ℕ) (at : ℕ) where
   abbrev roomed : ℕ → List Float → List ℕ → Both
-  roomed n s es = pick (leb (at + record_size n) (length out)) (Upto (at + record_size n), s, splice out at (record_of sample es)) (Refused Room, scratch, out)
+  roomed n s es = pick (leb (at + record_size n) (length out)) (Ok (at + record_size n), s, splice out at (record_of sample es)) (Err Room, scratch, out)
 
   abbrev numbered : Bool → ℕ → List Float → List ℕ → Both
-  numbered b n s es = pick b (roomed n s es) (Refused Attenuation, scratch, out)
+  numbered b n s es = pick b (roomed n s es) (Err Attenuation, scratch, out)
 
   module _ (m : length scratch ≡ length logs) (w : lawful_logs logs ≡ true) (lo : 1 ≤ length logs) (hi : length logs ≤ 8193) where
     within : (x : Both) → x ≡ numbered (all (λ i. is_number (attenuation_at f depth logs i)) (length logs)) (length logs) (scratch_of f depth logs scratch) (entries_of f depth logs) → x ≡ record_written sample f depth logs scratch out at

@@ -1,5 +1,5 @@
 -- The record of a frame, written at a place of a lent buffer: 01's refusals 5 and 6, then order 5's 19, 18 and 13, in this order. Definitions only.
-use Rattle.std.specs.Prelude.{ℕ, ◌+◌, List, eqb, ltb, leb, length, Float}
+use Rattle.std.specs.Prelude.{ℕ, ◌+◌, List, eqb, ltb, leb, length, Float, Ok, Err}
 use Rattle.sequences.specs.All.{all}
 use Rattle.sequences.specs.Pick.{pick}
 use Rattle.sequences.specs.Table.{table}
@@ -9,11 +9,9 @@ use Rattle.windows.specs.declared.Frame.{Frame}
 use Rattle.mask_gains.specs.Logs.{lawful_logs}
 use Rattle.mask_gains.specs.Opened.{open_at}
 use Rattle.mask_gains.specs.Gains.{quiet_of}
-use Rattle.mask_records.specs.declared.Written.{Written}
-use Rattle.mask_records.specs.declared.Written.TheVariants.{Upto, Refused}
+use Rattle.mask_records.specs.Placed.{Written, record_size}
 use Rattle.mask_records.specs.Bytes.{record_of}
 use Rattle.mask_records.specs.Entries.{attenuation_at, is_number, entry_for}
-use Rattle.mask_records.specs.Placed.{record_size}
 
 -- the entries of a frame's record, one a bin
 unfoldable pub entries_of : Frame → Float → List Float → List ℕ
@@ -29,12 +27,12 @@ record_written sample f depth logs scratch out at =
     let n = length logs in
     pick (eqb (length scratch) n)
     (pick (lawful_logs logs)
-    (pick (ltb n 1) (Refused Record, scratch, out)
-    (pick (ltb 8193 n) (Refused Record, scratch, out)
+    (pick (ltb n 1) (Err Record, scratch, out)
+    (pick (ltb 8193 n) (Err Record, scratch, out)
     (pick (all (λ i. is_number (attenuation_at f depth logs i)) n)
     (pick (leb (at + record_size n) (length out))
-    (Upto (at + record_size n), scratch_of f depth logs scratch, splice out at (record_of sample (entries_of f depth logs)))
-    (Refused Room, scratch, out))
-    (Refused Attenuation, scratch, out))))
-    (Refused Logs, scratch, out))
-    (Refused Lengths, scratch, out)
+    (Ok (at + record_size n), scratch_of f depth logs scratch, splice out at (record_of sample (entries_of f depth logs)))
+    (Err Room, scratch, out))
+    (Err Attenuation, scratch, out))))
+    (Err Logs, scratch, out))
+    (Err Lengths, scratch, out)

@@ -4,7 +4,6 @@ ghost use Rattle.text.specs.Put.{splice};
 ghost use Rattle.mask_records.specs.Bytes.{head_of, pairs_of};
 ghost use Rattle.mask_records.specs.Placed.{placed_of};
 
-use crate::Written;
 use big_endian::{bytes16, bytes64};
 use refusals::Refusal;
 
@@ -32,19 +31,19 @@ fn put_pairs(entries: &[u16], out: &mut [u8], at: usize)
 }
 
 // Refusal 13 leaves the buffer as it was.
-pub fn put_record(sample: u64, entries: &[u16], out: &mut [u8], at: usize) -> Written
+pub fn put_record(sample: u64, entries: &[u16], out: &mut [u8], at: usize) -> Result<usize, Refusal>
     requires { length entries.now ≤ 8193 }
     ensures { (result, out.new) ≡ placed_of sample entries.now out.old at }
 {
     let n = entries.len();
     if out.len() < at {
-        return Written::Refused(Refusal::Room);
+        return Err(Refusal::Room);
     }
     if out.len() - at < 16 + 2 * n {
-        return Written::Refused(Refusal::Room);
+        return Err(Refusal::Room);
     }
     let first = head(sample, n as u16);
     let after = text::put(out, at, &first);
     put_pairs(entries, out, after);
-    Written::Upto(at + (16 + 2 * n))
+    Ok(at + (16 + 2 * n))
 }

@@ -6,7 +6,7 @@ ghost use Rattle.mask_records.specs.Decibels.{entries, is_entry};
 ghost use Rattle.mask_records.specs.Found.{headed, entry_in, record_read};
 
 use crate::search::is_entry;
-use crate::{Read, decibels};
+use crate::{Found, decibels};
 use big_endian::{be16_at, be64_at, byte};
 use refusals::Refusal;
 
@@ -47,11 +47,11 @@ fn hand_out(s: &[u8], lent: &mut [u16])
 }
 
 // A refusal leaves the lent entries as they were.
-pub fn read_record(s: &[u8], lent: &mut [u16]) -> Read
+pub fn read_record(s: &[u8], lent: &mut [u16]) -> Result<Option<Found>, Refusal>
     ensures { (result, lent.new) ≡ record_read s.now lent.old }
 {
     if s.len() == 0 {
-        return Read::End;
+        return Ok(None);
     }
     if is_headed(s) {
         let n = be16_at(s, 11) as usize;
@@ -59,11 +59,16 @@ pub fn read_record(s: &[u8], lent: &mut [u16]) -> Read
         if all_entries(&gains, s, n) {
             if n <= lent.len() {
                 hand_out(s, &mut lent[..n]);
-                return Read::Found(be64_at(s, 3), n, 16 + 2 * n);
+                let found = Found {
+                    sample: be64_at(s, 3),
+                    count: n,
+                    size: 16 + 2 * n,
+                };
+                return Ok(Some(found));
             }
-            return Read::Refused(Refusal::Room);
+            return Err(Refusal::Room);
         }
-        return Read::Refused(Refusal::Record);
+        return Err(Refusal::Record);
     }
-    Read::Refused(Refusal::Record)
+    Err(Refusal::Record)
 }

@@ -8,7 +8,7 @@ ghost use Rattle.mask_records.specs.Placed.{placed_of};
 ghost use Rattle.mask_records.specs.Finished.{finished_of};
 ghost use Rattle.mask_records.specs.Written.{record_written};
 
-use crate::{Written, decibels};
+use crate::decibels;
 use refusals::Refusal;
 use windows::{Frame, Window};
 
@@ -21,22 +21,18 @@ fn finish(
     scratch: &mut [f32],
     out: &mut [u8],
     at: usize,
-) -> Written
+) -> Result<usize, Refusal>
     requires { (length opened.now ≤ 8193) × (length entries.old ≡ length opened.now) × (length scratch.old ≡ length opened.now) }
     ensures { (result, scratch.new, out.new) ≡ finished_of sample level opened.now scratch.old out.old at }
 {
     if crate::entry::all_numbers(level, opened) {
         let gains = decibels::table();
         crate::entry::fill(&gains, level, opened, entries);
-        return match crate::place::put_record(sample, entries, out, at) {
-            Written::Upto(after) => {
-                crate::entry::hand_over(opened, scratch);
-                Written::Upto(after)
-            }
-            Written::Refused(refusal) => Written::Refused(refusal),
-        };
+        let after = crate::place::put_record(sample, entries, out, at)?;
+        crate::entry::hand_over(opened, scratch);
+        return Ok(after);
     }
-    Written::Refused(Refusal::Attenuation)
+    Err(Refusal::Attenuation)
 }
 
 // A whole array of its own, of which a record uses the first places.
@@ -63,11 +59,12 @@ fn shape(
     scratch: &mut [f32],
     out: &mut [u8],
     at: usize,
-) -> Written
+) -> Result<usize, Refusal>
     requires { (length logs.now ≤ 8193) × (length opened.old ≡ length logs.now) × (length entries.old ≡ length logs.now) × (length scratch.old ≡ length logs.now) × (lawful_logs logs.now ≡ true) }
     ensures { (result, scratch.new, out.new) ≡ finished_of sample level (table (length logs.now) (open_at windows logs.now)) scratch.old out.old at }
 {
-    mask_gains::open_bins(windows, logs, opened);
+    // Of one length and lawful: it does not refuse.
+    let _ = mask_gains::open_bins(windows, logs, opened);
     finish(sample, level, opened, entries, scratch, out, at)
 }
 
@@ -79,7 +76,7 @@ fn loud(
     scratch: &mut [f32],
     out: &mut [u8],
     at: usize,
-) -> Written
+) -> Result<usize, Refusal>
     requires { (length logs.now ≤ 8193) × (length scratch.old ≡ length logs.now) × (lawful_logs logs.now ≡ true) }
     ensures { (result, scratch.new, out.new) ≡ finished_of sample level (table (length logs.now) (open_at windows logs.now)) scratch.old out.old at }
 {
@@ -99,7 +96,7 @@ fn loud(
     )
 }
 
-fn ones(sample: u64, entries: &mut [u16], out: &mut [u8], at: usize) -> Written
+fn ones(sample: u64, entries: &mut [u16], out: &mut [u8], at: usize) -> Result<usize, Refusal>
     requires { length entries.old ≤ 8193 }
     ensures { (result, out.new) ≡ placed_of sample (table (length entries.old) (λ i. 32768)) out.old at }
 {
@@ -108,7 +105,7 @@ fn ones(sample: u64, entries: &mut [u16], out: &mut [u8], at: usize) -> Written
 }
 
 // Nothing to attenuate: scratch is not touched, as by the mask call.
-fn quiet(sample: u64, n: usize, out: &mut [u8], at: usize) -> Written
+fn quiet(sample: u64, n: usize, out: &mut [u8], at: usize) -> Result<usize, Refusal>
     requires { n ≤ 8193 }
     ensures { (result, out.new) ≡ placed_of sample (table n (λ i. 32768)) out.old at }
 {
@@ -124,18 +121,18 @@ pub fn write_record(
     scratch: &mut [f32],
     out: &mut [u8],
     at: usize,
-) -> Written
+) -> Result<usize, Refusal>
     ensures { (result, scratch.new, out.new) ≡ record_written sample frame depth_db logs.now scratch.old out.old at }
 {
     if scratch.len() != logs.len() {
-        return Written::Refused(Refusal::Lengths);
+        return Err(Refusal::Lengths);
     }
     if mask_gains::lawful(logs) {
         if logs.len() < 1 {
-            return Written::Refused(Refusal::Record);
+            return Err(Refusal::Record);
         }
         if logs.len() > 8193 {
-            return Written::Refused(Refusal::Record);
+            return Err(Refusal::Record);
         }
         if mask_gains::quiet(depth_db, frame.activity) {
             return quiet(sample, logs.len(), out, at);
@@ -151,5 +148,5 @@ pub fn write_record(
             at,
         );
     }
-    Written::Refused(Refusal::Logs)
+    Err(Refusal::Logs)
 }

@@ -12,13 +12,6 @@ use listing::Line;
 use mask_files::Made;
 use refusals::Refusal;
 
-// Plain digits, or something else.
-#[derive(Clone, Copy)]
-enum Number {
-    Is(u64),
-    Nothing,
-}
-
 // More than a million says as much as a million: the size is then too large, the depth the deepest.
 fn held(n: u64) -> u64
     ensures { (result ≡ digits_held n) × (result ≤ 1000000) }
@@ -26,37 +19,38 @@ fn held(n: u64) -> u64
     if n < 1000000 { n } else { 1000000 }
 }
 
-fn digits(text: &[u8]) -> Number
+// None where anything else stands there.
+fn digits(text: &[u8]) -> Option<u64>
     ensures { result ≡ digits_number text.now }
 {
     if text.len() == 0 {
-        return Number::Nothing;
+        return None;
     }
     let mut n: u64 = 0;
     for i in 0..text.len() {
         let c = text[i];
         if c < 48 {
-            return Number::Nothing;
+            return None;
         }
         if c > 57 {
-            return Number::Nothing;
+            return None;
         }
         n = held(n * 10 + (c as u64 - 48));
     }
-    Number::Is(n)
+    Some(n)
 }
 
-fn next(text: &mut [u8]) -> Number {
+fn next(text: &mut [u8]) -> Option<u64> {
     let n = io::read_full(0, text);
     digits(&text[..n])
 }
 
-fn size() -> Number {
+fn size() -> Option<u64> {
     let mut text = [0u8; 5];
     next(&mut text)
 }
 
-fn tenths() -> Number {
+fn tenths() -> Option<u64> {
     let mut text = [0u8; 9];
     next(&mut text)
 }
@@ -146,7 +140,8 @@ fn file(
     if script.len() > script::MAX_SCRIPT_BYTES {
         return say_line(text, Line::Bad(0, Refusal::Script, 0));
     }
-    mask_files::prepare(script, size, logs);
+    // The size is judged, and the logarithms are as many as it asks for: it does not refuse.
+    let _ = mask_files::prepare(script, size, logs);
     write_masks(script, depth_db, logs, scratch, out, text)
 }
 
@@ -219,11 +214,7 @@ fn run(size: u64, tenths: u64) {
 fn main() {
     let size = size();
     let tenths = tenths();
-    match size {
-        Number::Is(size) => match tenths {
-            Number::Is(tenths) => run(size, tenths),
-            Number::Nothing => {}
-        },
-        Number::Nothing => {}
+    if let (Some(size), Some(tenths)) = (size, tenths) {
+        run(size, tenths)
     }
 }

@@ -1,5 +1,5 @@
 -- What a script prints on an engine that has counted samples already when its first field makes it, for the comparison with the Rust near the limit of samples. Definitions only.
-use Rattle.std.specs.Prelude.{ℕ, zero, suc, ◌+◌, cond, List, [], ◌++◌, length, eqb, leb, ltb}
+use Rattle.std.specs.Prelude.{ℕ, zero, suc, ◌+◌, cond, List, [], ◌++◌, length, eqb, leb, ltb, Ok, Err}
 use Rattle.sequences.specs.Pick.{pick}
 use Rattle.text.specs.Put.{splice}
 use Rattle.refusals.specs.declared.Refusal.TheVariants.{Script, Room}
@@ -8,10 +8,8 @@ use Rattle.state.specs.State.{with_clock}
 use Rattle.script_steps.specs.declared.Run.{Run}
 use Rattle.script_steps.specs.Steps.{fresh, with_engine}
 use Rattle.listing.specs.declared.lines.Line.TheVariants as L
-use Rattle.listing.specs.declared.Listed.{Listed}
-use Rattle.listing.specs.declared.Listed.TheVariants.{Count, Refused}
+use Rattle.listing.specs.Listed.{Listed, room_for}
 use Rattle.listing.specs.Lines.{text_of}
-use Rattle.listing.specs.Listed.{room_for}
 use Rattle.listing.specs.Turns.{turn_of}
 
 abbrev pub with_sample : Engine → ℕ → Engine
@@ -36,7 +34,7 @@ unfoldable pub printed_late : ℕ → List ℕ → List ℕ
 printed_late start s = cond (leb (length s) 60000) (text_late start (length s + 1) fresh 1 0 s) (text_of (L.Bad 0 Script 0))
 
 abbrev pub listed_late : ℕ → ℕ → List ℕ → Listed
-listed_late start has s = cond (ltb has (room_for (length s))) (Refused Room) (Count (length (printed_late start s)))
+listed_late start has s = cond (ltb has (room_for (length s))) (Err Room) (Ok (length (printed_late start s)))
 
 abbrev pub left_late : ℕ → List ℕ → List ℕ → List ℕ
 left_late start o s = cond (ltb (length o) (room_for (length s))) o (splice o 0 (printed_late start s))

@@ -6,7 +6,7 @@ ghost use Rattle.std.specs.Prelude.{◌≡◌, ◌+◌, ◌-◌, ◌<◌, ◌≤
 ghost use Rattle.text.specs.Put.{Put};
 ghost use Rattle.oracle_late.specs.Late.{counted_of, run_after, text_late, printed_late, listed_late, left_late};
 
-use listing::{Line, Listed};
+use listing::Line;
 use refusals::Refusal;
 use script_steps::Run;
 use state::Clock;
@@ -81,13 +81,13 @@ fn put_listing(start: u64, script: &[u8], out: &mut [u8]) -> usize
     }
 }
 
-pub fn list_script_from(start: u64, script: &[u8], out: &mut [u8]) -> Listed
+pub fn list_script_from(start: u64, script: &[u8], out: &mut [u8]) -> Result<usize, Refusal>
     ensures { (result ≡ listed_late start (length out.old) script.now) × (out.new ≡ left_late start out.old script.now) }
 {
     let needed = listing::room(script.len());
     if out.len() < needed {
-        return Listed::Refused(Refusal::Room);
+        return Err(Refusal::Room);
     }
     let n = put_listing(start, script, out);
-    Listed::Count(n)
+    Ok(n)
 }

@@ -1,8 +1,8 @@
 -- What is seen of a record, from what the call on it and `told` answer.
 use Rattle.std.proofs.Common.{◌≡◌, ℕ, List, ap, ◌∙◌}
 use lib.Ieee.{Float}
-use Rattle.mask_records.specs.declared.Written.{Written}
-use Rattle.mask_records.specs.declared.Read.{Read}
+use Rattle.mask_records.specs.Placed.{Written}
+use Rattle.mask_records.specs.Found.{Read}
 use Rattle.oracle_probe.specs.Records.{told_place, told_record, told_numbers, found_of}
 
 pub written_told : (at : ℕ) {written : Written} {scratch : List Float} {out : List ℕ} {all : Written × List Float × List ℕ} {number after : ℕ}

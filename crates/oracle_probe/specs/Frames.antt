@@ -1,8 +1,7 @@
 -- A frame from plain floats, three for a window, and an answer as 01's number beside what the call leaves. Definitions only.
 use Rattle.std.specs.Prelude.{ℕ, ◌+◌, ◌*◌, List, slice_index_or, Float}
 use Rattle.sequences.specs.Table.{table}
-use Rattle.refusals.specs.declared.Answer.{Answer}
-use Rattle.refusals.specs.Numbers.{answer_of}
+use Rattle.refusals.specs.Numbers.{Answer, answer_of}
 use Rattle.windows.specs.declared.Window.{Window}
 use Rattle.windows.specs.declared.Frame.{Frame}
 use Rattle.floats.specs.Names.{zero32}

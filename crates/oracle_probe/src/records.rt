@@ -7,7 +7,8 @@ ghost use Rattle.mask_records.specs.Found.{record_read};
 ghost use Rattle.oracle_probe.specs.Frames.{flat_frame};
 ghost use Rattle.oracle_probe.specs.Records.{told_place, told_record, told_numbers, found_of};
 
-use mask_records::{Read, Written};
+use mask_records::Found;
+use refusals::Refusal;
 
 #[unsafe(no_mangle)]
 pub extern "C" fn rk_probe_tenths(attenuation_db: f32) -> u64
@@ -29,15 +30,15 @@ pub extern "C" fn rk_probe_entry(n: u64) -> u64
 }
 
 // The place after the record goes behind `at`; a refusal leaves it.
-fn told(written: Written, at: &mut u64) -> u64
+fn told(written: Result<usize, Refusal>, at: &mut u64) -> u64
     ensures { (result, at.new) ≡ told_place at.old written }
 {
     match written {
-        Written::Upto(after) => {
+        Ok(after) => {
             *at = after as u64;
             0
         }
-        Written::Refused(refusal) => refusals::number(refusal),
+        Err(refusal) => u64::from(refusal),
     }
 }
 
@@ -68,18 +69,18 @@ pub extern "C" fn rk_probe_write_record(
 }
 
 // 255 stands for the end. Sample, count and size are left but by a record that is found.
-fn told_found(read: Read, sample: &mut u64, count: &mut u64, taken: &mut u64) -> u64
+fn told_found(read: Result<Option<Found>, Refusal>, sample: &mut u64, count: &mut u64, taken: &mut u64) -> u64
     ensures { (result, sample.new, count.new, taken.new) ≡ told_numbers sample.old count.old taken.old read }
 {
     match read {
-        Read::End => 255,
-        Read::Found(at, bins, bytes) => {
-            *sample = at;
-            *count = bins as u64;
-            *taken = bytes as u64;
+        Ok(None) => 255,
+        Ok(Some(found)) => {
+            *sample = found.sample;
+            *count = found.count as u64;
+            *taken = found.size as u64;
             0
         }
-        Read::Refused(refusal) => refusals::number(refusal),
+        Err(refusal) => u64::from(refusal),
     }
 }
 

@@ -1,35 +1,31 @@
 -- What the oracle is handed of a whole script. Definitions only.
-use Rattle.std.specs.Prelude.{ℕ, zero, suc, ◌+◌, ◌*◌, Bool, cond, ◌&&◌, List, [], ◌∷◌, ◌++◌, eqb, leb, length, drop}
+use Rattle.std.specs.Prelude.{ℕ, zero, suc, ◌+◌, ◌*◌, Bool, cond, ◌&&◌, List, [], ◌∷◌, ◌++◌, eqb, leb, length, drop, Some, None, Ok, Err}
 use Rattle.sequences.specs.Pick.{pick}
 use Rattle.text.specs.Put.{splice, joined}
 use Rattle.script.specs.declared.fields.Field.{Field}
 use Rattle.script.specs.declared.fields.Field.TheVariants as F
-use Rattle.script.specs.declared.Read.{Read}
-use Rattle.script.specs.declared.Read.TheVariants as S
-use Rattle.script.specs.Field.{read_of}
-use Rattle.engine_triggers.specs.declared.Outcome.{Outcome}
-use Rattle.engine_triggers.specs.declared.Outcome.TheVariants as O
-use Rattle.engine_triggers.specs.Triggers.{triggered_of, triggered_by}
+use Rattle.script.specs.Field.{Read, read_of}
+use Rattle.engine_triggers.specs.Triggers.{Fired, triggered_of, triggered_by}
+use Rattle.engine_triggers.specs.declared.Outcome.TheVariants.{Born, NotEligible, Dropped}
 use Rattle.script_steps.specs.declared.Run.{Run}
 use Rattle.script_steps.specs.Steps.{fresh}
 use Rattle.listing.specs.Turns.{turn_of}
-use Rattle.listing.specs.declared.Listed.{Listed}
-use Rattle.listing.specs.declared.Listed.TheVariants.{Count, Refused}
+use Rattle.listing.specs.Listed.{Listed}
 use Rattle.oracle_late.specs.Late.{run_after}
 use Rattle.oracle_replay.specs.State.{state_bytes}
 use Rattle.entry.specs.Entry.{frame_bytes}
 
 -- no room is 0
 abbrev pub count_of : Listed → ℕ
-count_of (Count n) = n
-count_of (Refused r) = 0
+count_of (Ok n) = n
+count_of (Err r) = 0
 
 -- refusals stand in the listing
-abbrev pub outcome_byte : Outcome → ℕ
-outcome_byte O.Born = 1
-outcome_byte O.NotEligible = 2
-outcome_byte O.Dropped = 3
-outcome_byte (O.Refused r) = 0
+abbrev pub outcome_byte : Fired → ℕ
+outcome_byte (Ok Born) = 1
+outcome_byte (Ok NotEligible) = 2
+outcome_byte (Ok Dropped) = 3
+outcome_byte (Err r) = 0
 
 -- what a field's trigger answers, on the run that it meets; 0 where the field is no trigger
 unfoldable pub trigger_of : Run → Field → ℕ
@@ -48,9 +44,9 @@ trigger_of run F.Reserve = 0
 trigger_of run (F.ReservedTrigger s i) = outcome_byte (triggered_by run.engine s i).outcome
 
 abbrev pub read_answer : Run → Read → ℕ
-read_answer run (S.Field f k) = trigger_of run f
-read_answer run (S.Bad r) = 0
-read_answer run S.End = 0
+read_answer run (Ok (Some (f, k))) = trigger_of run f
+read_answer run (Err r) = 0
+read_answer run (Ok None) = 0
 
 -- field n of the script stands at the start of s
 unfoldable pub answer_byte : Run → ℕ → List ℕ → ℕ

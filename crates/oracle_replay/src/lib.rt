@@ -9,20 +9,20 @@ ghost use Rattle.oracle_late.specs.Late.{listed_late, left_late};
 ghost use Rattle.oracle_replay.specs.Replay.{count_of, outcome_byte, trigger_of, answer_byte, left_by, left_from, handed_count, handed_in};
 
 use engine::{Outcome, Triggered};
-use listing::Listed;
-use script::{Field, Read};
+use refusals::Refusal;
+use script::Field;
 use script_steps::Run;
 
 mod numbers;
 mod states;
 mod written;
 
-fn count(listed: Listed) -> usize
+fn count(listed: Result<usize, Refusal>) -> usize
     ensures { result ≡ count_of listed }
 {
     match listed {
-        Listed::Count(n) => n,
-        Listed::Refused(_) => 0,
+        Ok(n) => n,
+        Err(_) => 0,
     }
 }
 
@@ -47,10 +47,10 @@ fn outcome(triggered: Triggered) -> u8
 {
     let outcome = triggered.outcome;
     match outcome {
-        Outcome::Born => 1,
-        Outcome::NotEligible => 2,
-        Outcome::Dropped => 3,
-        Outcome::Refused(_) => 0,
+        Ok(Outcome::Born) => 1,
+        Ok(Outcome::NotEligible) => 2,
+        Ok(Outcome::Dropped) => 3,
+        Err(_) => 0,
     }
 }
 
@@ -81,11 +81,9 @@ fn trigger(run: Run, field: Field) -> u8
 fn answer(run: Run, n: u64, s: &[u8]) -> u8
     ensures { result ≡ answer_byte run n s.now }
 {
-    let read = script::read_field(s, n == 1);
-    match read {
-        Read::Field(field, _) => trigger(run, field),
-        Read::Bad(_) => 0,
-        Read::End => 0,
+    match script::read_field(s, n == 1) {
+        Ok(Some((field, _))) => trigger(run, field),
+        Ok(None) | Err(_) => 0,
     }
 }
 

@@ -1,4 +1,5 @@
 -- The fields of a script written one after the other: a field and then the rest of them, up to where the reader stops.
+use Rattle.std.specs.Prelude.{Some, None, Ok, Err}
 use Prim.Native.Nat.{ℕ, ◌+◌, ◌-◌, ◌≤◌}
 use mathlib.Core.Path.{◌≡◌, refl, sym, ap, ◌∙◌}
 use mathlib.Core.List.{List, [], ◌∷◌, ◌++◌}
@@ -9,14 +10,12 @@ use lib.Dec.{eqb}
 use Rattle.text.specs.Put.{buffer_of}
 use Rattle.text.proofs.Laws.{piece}
 use Rattle.script.specs.declared.fields.Field.{Field}
-use Rattle.script.specs.declared.Read.{Read}
-use Rattle.script.specs.declared.Read.TheVariants as R
-use Rattle.script.specs.Field.{read_of}
+use Rattle.script.specs.Field.{Read, read_of}
 use Rattle.script.proofs.Taken as T
 use Rattle.script.specs.Reading.{onward}
 use Rattle.script.proofs.Steps.{field, wrong, end, onward-reads, only}
 use Rattle.script_writer.specs.Encoded.{encoded}
-use Rattle.script_writer.specs.Written.{written_of}
+use Rattle.script_writer.specs.Written.{written_of, count_of}
 use Rattle.script_writer_laws.specs.Events.{events}
 use Rattle.script_writer_laws.specs.InARow.{count_after, bytes_after}
 use Rattle.oracle_rewrite.specs.Rewritten.{field_in, taken_by}
@@ -25,36 +24,36 @@ use Rattle.oracle_rewrite.specs.Rewritten.{field_in, taken_by}
 count_append : (es fs : List Field) (o : List ℕ) (w : ℕ) → count_after o w (es ++ fs) ≡ count_after (bytes_after o w es) (count_after o w es) fs
 unfolding count_after bytes_after
 count_append [] fs o w = refl
-count_append (e ∷ es) fs o w = count_append es fs (buffer_of o w (encoded e)) (written_of (length o) w (encoded e)).count
+count_append (e ∷ es) fs o w = count_append es fs (buffer_of o w (encoded e)) (count_of w (written_of (length o) w (encoded e)))
 
 bytes_append : (es fs : List Field) (o : List ℕ) (w : ℕ) → bytes_after o w (es ++ fs) ≡ bytes_after (bytes_after o w es) (count_after o w es) fs
 unfolding count_after bytes_after
 bytes_append [] fs o w = refl
-bytes_append (e ∷ es) fs o w = bytes_append es fs (buffer_of o w (encoded e)) (written_of (length o) w (encoded e)).count
+bytes_append (e ∷ es) fs o w = bytes_append es fs (buffer_of o w (encoded e)) (count_of w (written_of (length o) w (encoded e)))
 
 pub bytes_length : (es : List Field) (o : List ℕ) (w : ℕ) → length (bytes_after o w es) ≡ length o
 unfolding bytes_after
 bytes_length [] o w = refl
 bytes_length (e ∷ es) o w =
-    bytes_length es (buffer_of o w (encoded e)) (written_of (length o) w (encoded e)).count ∙ (piece (refl, refl)).same
+    bytes_length es (buffer_of o w (encoded e)) (count_of w (written_of (length o) w (encoded e))) ∙ (piece (refl, refl)).same
 
 -- ---- the fields of a script from a place on
 module _ (n at : ℕ) (s : List ℕ) where
   stops : (r : Read) → read_of s (eqb n 1) ≡ r → T.Taken r (length s) → taken_by r ≡ 0 → events (onward n at s) ≡ field_in r
-  stops (R.Field f k) e (T.field lo hi) z = absurd (omega arith)
-  stops (R.Bad c) e T.bad z = ap events (sym (only (wrong {at = at} e)))
-  stops R.End e T.end z = ap events (sym (only (end {at = at} e)))
+  stops (Ok (Some (f, k))) e (T.field lo hi) z = absurd (omega arith)
+  stops (Err c) e T.bad z = ap events (sym (only (wrong {at = at} e)))
+  stops (Ok None) e T.end z = ap events (sym (only (end {at = at} e)))
 
   goes : (r : Read) → read_of s (eqb n 1) ≡ r → T.Taken r (length s) → (taken_by r ≡ 0 → ⊥)
       → events (onward n at s) ≡ field_in r ++ events (onward (n + 1) (at + taken_by r) (drop (taken_by r) s))
-  goes (R.Field f k) e (T.field lo hi) z = ap events (sym (only (field e lo hi (onward-reads (n + 1) (at + k) (drop k s)))))
-  goes (R.Bad c) e T.bad z = absurd (z refl)
-  goes R.End e T.end z = absurd (z refl)
+  goes (Ok (Some (f, k))) e (T.field lo hi) z = ap events (sym (only (field e lo hi (onward-reads (n + 1) (at + k) (drop k s)))))
+  goes (Err c) e T.bad z = absurd (z refl)
+  goes (Ok None) e T.end z = absurd (z refl)
 
   within : (r : Read) → T.Taken r (length s) → taken_by r ≤ length s
-  within (R.Field f k) (T.field lo hi) = hi
-  within (R.Bad c) T.bad = omega arith
-  within R.End T.end = omega arith
+  within (Ok (Some (f, k))) (T.field lo hi) = hi
+  within (Err c) T.bad = omega arith
+  within (Ok None) T.end = omega arith
 
 -- what is written of the whole script is what is written of the fields that are left, behind what stands there
 pub record Left (script o₀ out : List ℕ) (n at w : ℕ) : Type 0 where

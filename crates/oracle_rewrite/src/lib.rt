@@ -9,7 +9,6 @@ ghost use Rattle.script_writer_laws.specs.Events.{events};
 ghost use Rattle.script_writer_laws.specs.InARow.{count_after, bytes_after};
 ghost use Rattle.oracle_rewrite.specs.Rewritten.{field_in, taken_by};
 
-use script::Read;
 
 #[derive(Clone, Copy)]
 struct Rewritten {
@@ -25,18 +24,18 @@ fn rewrite_field(script: &[u8], first: bool, out: &mut [u8], at: usize) -> Rewri
 {
     let read = script::read_field(script, first);
     match read {
-        Read::Field(field, taken) => {
+        Ok(Some((field, taken))) => {
             let written = script_writer::write_field(field, out, at);
             Rewritten {
                 taken,
-                count: written.count,
+                count: written.unwrap_or(at),
             }
         }
-        Read::Bad(_) => Rewritten {
+        Err(_) => Rewritten {
             taken: 0,
             count: at,
         },
-        Read::End => Rewritten {
+        Ok(None) => Rewritten {
             taken: 0,
             count: at,
         },

@@ -5,7 +5,7 @@
 
 ghost use Rattle.std.specs.Prelude.{◌≡◌, ◌≤◌, ◌<◌, length};
 
-use mask_records::Read;
+use mask_records::Found;
 
 mod lines;
 mod rows;
@@ -35,15 +35,15 @@ fn turn(before: u64, bytes: &mut [u8], entries: &mut [u16], line: &mut [u8]) -> 
 {
     let n = next(bytes);
     match mask_records::read_record(&bytes[..n], entries) {
-        Read::End => {
+        Ok(None) => {
             lines::write_end(before, line);
             false
         }
-        Read::Refused(refusal) => {
-            lines::write_bad(before + 1, refusals::number(refusal), line);
+        Err(refusal) => {
+            lines::write_bad(before + 1, u64::from(refusal), line);
             false
         }
-        Read::Found(sample, count, _) => {
+        Ok(Some(Found { sample, count, .. })) => {
             if count <= entries.len() {
                 lines::write_record(sample, &entries[..count], line);
             }

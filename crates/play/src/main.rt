@@ -1,7 +1,6 @@
 // Reads a script on standard input, and writes what it prints.
 #![tactic(auto)]
 
-use listing::Listed;
 use std::io::{Input, Read};
 
 // A read answers 0 at the end of the input alone: where one failed, as in a folder, the next fails too.
@@ -22,12 +21,12 @@ fn play_into(rt: &impl Input, script: &mut [u8], out: &mut [u8]) {
         }
     }
     match listing::list_script(&script[..n], out) {
-        Listed::Count(k) => {
+        Ok(k) => {
             if k <= out.len() {
                 io::write_all(1, &out[..k]);
             }
         }
-        Listed::Refused(_) => {}
+        Err(_) => {}
     }
 }
 

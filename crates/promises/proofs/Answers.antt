@@ -1,4 +1,5 @@
 -- Demand 1 of the engine's calls, each with one refusal, and of the fields of a script, whose replies are these answers.
+use Rattle.std.specs.Prelude.{Ok, Err}
 use Prim.Native.Nat.{ℕ, ◌+◌, ◌^◌}
 use mathlib.Core.Path.{◌≡◌, refl, sym, ap, ◌∙◌}
 use mathlib.Core.Bool.{Bool, true, false, not, true≢false}
@@ -6,11 +7,9 @@ use mathlib.Core.List.{[], ◌∷◌}
 use lib.Dec.{ltb, leb}
 use lib.Ieee.{Float}
 use Rattle.sequences.specs.Pick.{pick, either}
-use Rattle.refusals.specs.declared.Answer.{Answer}
-use Rattle.refusals.specs.declared.Answer.TheVariants.{Taken, Refused}
+use Rattle.refusals.specs.Numbers.{Answer, number_of, answer_of}
 use Rattle.refusals.specs.declared.Refusal.{Refusal}
 use Rattle.refusals.specs.declared.Refusal.TheVariants.{Rate, Slot, Size, Elapsed}
-use Rattle.refusals.specs.Numbers.{number_of, answer_of}
 use Rattle.settings.specs.declared.Config.{Config}
 use Rattle.settings.specs.Settings.{checked_of, lawful_rate}
 use Rattle.sources.specs.declared.Source.{Source}
@@ -22,9 +21,8 @@ use Rattle.engine.specs.Advance.{advanced_of}
 use Rattle.engine_sources.specs.Slots.{set_source_of, retire_source_of, release_source_of}
 use Rattle.engine_changes.specs.Changes.{answered_by, configured_of}
 use Rattle.engine_triggers.specs.declared.Triggered.{Triggered}
-use Rattle.engine_triggers.specs.declared.Outcome.{Outcome}
-use Rattle.engine_triggers.specs.declared.Outcome.TheVariants as O
-use Rattle.engine_triggers.specs.Triggers.{outcome_number, triggered_with, outcome_of, reserved_of, triggered_by, triggered_of}
+use Rattle.engine_triggers.specs.Triggers.{Fired, outcome_number, triggered_with, outcome_of, reserved_of, triggered_by, triggered_of}
+use Rattle.engine_triggers.specs.declared.Outcome.TheVariants.{Born, NotEligible, Dropped}
 use Rattle.windows.specs.Opening.{empty_frame}
 use Rattle.frame.specs.declared.Framed.{Framed}
 use Rattle.frame.specs.Frame.{accepted}
@@ -52,7 +50,7 @@ unfolding pick
 new_leaves true x y n = absurd (true≢false (sym n))
 new_leaves false x y n = refl
 
-pub checked : (b : Bool) (e : Engine) (c : Config) → (answer_of (answered_by (pick b (Refused Size) Taken) e c).answer ≡ first_of ((b, 3) ∷ [])) × Kept e (answered_by (pick b (Refused Size) Taken) e c)
+pub checked : (b : Bool) (e : Engine) (c : Config) → (answer_of (answered_by (pick b (Err Size) (Ok tt)) e c).answer ≡ first_of ((b, 3) ∷ [])) × Kept e (answered_by (pick b (Err Size) (Ok tt)) e c)
 unfolding first_of pick
 checked true e c = (refl, λ n. refl)
 checked false e c = (refl, λ n. absurd (n refl))
@@ -61,7 +59,7 @@ checked false e c = (refl, λ n. absurd (n refl))
 outcomes : (e out : Engine) → outcome_number (outcome_of e out).outcome ≡ 0
 outcomes e out = either (λ (t : Triggered). outcome_number t.outcome ≡ 0) _ _ _ refl refl
 
-fired-by : (b : Bool) (t : Triggered) (e : Engine) → outcome_number t.outcome ≡ 0 → outcome_number (pick b t (triggered_with (O.Refused Slot) e)).outcome ≡ first_of ((not b, 2) ∷ [])
+fired-by : (b : Bool) (t : Triggered) (e : Engine) → outcome_number t.outcome ≡ 0 → outcome_number (pick b t (triggered_with (Err Slot) e)).outcome ≡ first_of ((not b, 2) ∷ [])
 unfolding first_of pick
 fired-by true t e h = h
 fired-by false t e h = refl
@@ -70,7 +68,7 @@ pub fired : (e : Engine) (slot index : ℕ) → outcome_number (triggered_by e s
 unfolding triggered_by
 fired e slot index = fired-by (ltb slot 256) _ e (either (λ (t : Triggered). outcome_number t.outcome ≡ 0) _ _ _ (outcomes e _) refl)
 
-missed : (b : Bool) (t : Triggered) (e : Engine) → not b ≡ true → (pick b t (triggered_with (O.Refused Slot) e)).engine ≡ e
+missed : (b : Bool) (t : Triggered) (e : Engine) → not b ≡ true → (pick b t (triggered_with (Err Slot) e)).engine ≡ e
 unfolding pick
 missed true t e n = absurd (true≢false (sym n))
 missed false t e n = refl
@@ -80,7 +78,7 @@ unfolding triggered_by
 fired-leaves e slot index n = missed (ltb slot 256) _ e n
 
 -- ---- frame
-framed : (b : Bool) (e : Engine) (x : Framed) → x.answer ≡ Taken → answer_of (pick b x (refused_of e)).answer ≡ first_of ((not b, 7) ∷ [])
+framed : (b : Bool) (e : Engine) (x : Framed) → x.answer ≡ Ok tt → answer_of (pick b x (refused_of e)).answer ≡ first_of ((not b, 7) ∷ [])
 unfolding first_of pick refused_of
 framed true e x h = ap answer_of h
 framed false e x h = refl
@@ -128,24 +126,24 @@ done_reply : (before : Run) (d : Done) → reply_number (steps.done_of before d)
 done_reply before d = go d.answer
   where
     go : (a : Answer) → reply_number (steps.answered_of before d.engine a).reply ≡ answer_of a
-    go Taken = refl
-    go (Refused r) = refl
+    go (Ok tt) = refl
+    go (Err r) = refl
 
 fired_reply : (before : Run) (t : Triggered) → reply_number (steps.fired_of before t).reply ≡ outcome_number t.outcome
 fired_reply before t = go t.outcome
   where
-    go : (o : Outcome) → reply_number (steps.outcome_step before t.engine o).reply ≡ outcome_number o
-    go O.Born = refl
-    go O.NotEligible = refl
-    go O.Dropped = refl
-    go (O.Refused r) = refl
+    go : (o : Fired) → reply_number (steps.outcome_step before t.engine o).reply ≡ outcome_number o
+    go (Ok Born) = refl
+    go (Ok NotEligible) = refl
+    go (Ok Dropped) = refl
+    go (Err r) = refl
 
 framed_reply : (before : Run) (f : Framed) → reply_number (steps.framed_step before f).reply ≡ answer_of f.answer
 framed_reply before f = go f.answer
   where
     go : (a : Answer) → reply_number (steps.frame_step_of before f.engine f.frame a).reply ≡ answer_of a
-    go Taken = refl
-    go (Refused r) = refl
+    go (Ok tt) = refl
+    go (Err r) = refl
 
 module _ (before : Run) where
   abbrev e : Engine

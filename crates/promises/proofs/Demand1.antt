@@ -1,4 +1,5 @@
 -- Demand 1: every call refuses by the scope's numbers, exactly when the scope says, and a refusal leaves what it must.
+use Rattle.std.specs.Prelude.{Some, None, Ok, Err}
 use Prim.Native.Nat.{ℕ, ◌+◌, ◌-◌, ◌*◌, ◌/◌, ◌^◌}
 use mathlib.Core.Path.{◌≡◌, refl, sym, ap, ◌∙◌}
 use mathlib.Core.Logic.{◌↔◌}
@@ -9,11 +10,9 @@ use lib.ListN.{length, get_or, drop}
 use lib.Ieee.{Float, is_nan}
 use Rattle.sequences.specs.All.{all}
 use Rattle.sequences.specs.Pick.{pick, picked, passed, either, by-case}
-use Rattle.refusals.specs.declared.Answer.{Answer}
-use Rattle.refusals.specs.declared.Answer.TheVariants.{Taken, Refused}
+use Rattle.refusals.specs.Numbers.{Answer, number_of, answer_of}
 use Rattle.refusals.specs.declared.Refusal.{Refusal}
 use Rattle.refusals.specs.declared.Refusal.TheVariants.{Rate, Slot, Size, Elapsed, Lengths, Logs, Seconds, Tag, Value, Place, Script, Room, HeaderCut, WrongLength, ValueCut, Attenuation, Record}
-use Rattle.refusals.specs.Numbers.{number_of, answer_of}
 use Rattle.settings.specs.Settings.{checked_of, lawful_rate}
 use Rattle.engine.specs.New.{new_engine_of}
 use Rattle.engine.specs.Advance.{advanced_of}
@@ -27,27 +26,20 @@ use Rattle.mask_gains.specs.Bins as bins
 use Rattle.mask_gains.specs.Logs.{lawful_logs}
 use Rattle.mask_gains.specs.Gains.{gains_of}
 use Rattle.mask_records.specs.Decibels.{is_entry}
-use Rattle.mask_records.specs.declared.Written.{Written}
-use Rattle.mask_records.specs.declared.Written.TheVariants as W
-use Rattle.mask_records.specs.declared.Read as reader
-use Rattle.mask_records.specs.declared.Read.TheVariants as M
+use Rattle.mask_records.specs.Placed.{Written}
 use Rattle.mask_records.specs.Entries.{attenuation_at}
 use Rattle.mask_records.specs.Written.{record_written}
 use Rattle.mask_records.specs.Found as records-in
-use Rattle.mask_files.specs.declared.Filed.{Filed}
-use Rattle.mask_files.specs.declared.Filed.TheVariants as Files
+use Rattle.mask_files.specs.Masks.{Filed, logs_for, filed_number, placed_by, masks_of}
 use Rattle.mask_files.specs.Records.{filed_of}
-use Rattle.mask_files.specs.Masks.{logs_for, filed_number, placed_by, masks_of}
 use Rattle.script.specs.declared.fields.Field.{Field}
-use Rattle.script.specs.declared.Read.{Read}
-use Rattle.script.specs.declared.Read.TheVariants as R
+use Rattle.script.specs.Field.{Read, misplaced, unknown, body_of, read_of}
 use Rattle.big_endian.specs.Numbers.{be16}
 use Rattle.text.specs.Put.{splice}
 use Rattle.script_steps.specs.declared.Run.{Run}
 use Rattle.listing.specs.declared.lines.Line.TheVariants as L
 use Rattle.listing.specs.Turns.{bad_place, after_of, turn_of, turns_of}
 use Rattle.script.specs.Table.{kind_of, length_of, lawful}
-use Rattle.script.specs.Field.{misplaced, unknown, body_of, read_of}
 use Rattle.listing.specs.declared.ending.Ended.{Ended}
 use Rattle.listing.specs.Ended.{ran_of}
 use Rattle.entry.specs.Entry.{entry_answer, if_taken, entry_bytes}
@@ -86,7 +78,7 @@ abbrev Bins : Type 0
 Bins = Answer × List Float
 
 tabled : (a b c d : Bool) (x old : List Float)
-    → let got : Bins = pick a (pick b (Refused Size, old) (pick c (Refused Size, old) (pick d (Taken, x) (Refused Lengths, old)))) (Refused Rate, old) in
+    → let got : Bins = pick a (pick b (Err Size, old) (pick c (Err Size, old) (pick d (Ok tt, x) (Err Lengths, old)))) (Err Rate, old) in
     (answer_of got.0 ≡ first_of ((not a, 1) ∷ (b || c, 3) ∷ (not d, 5) ∷ [])) × ((answer_of got.0 ≡ 0 → ⊥) → got.1 ≡ old)
 unfolding first_of pick
 tabled false b c d x old = (refl, λ n. refl)
@@ -98,8 +90,8 @@ tabled true false false true x old = (refl, λ n. absurd (n refl))
 abbrev Masked : Type 0
 Masked = Answer × List Float × List Float
 
-masked : (a b c : Bool) (x : Masked) (scratch output : List Float) → x.0 ≡ Taken
-    → let got : Masked = pick a (pick b (pick c x (Refused Logs, scratch, output)) (Refused Lengths, scratch, output)) (Refused Lengths, scratch, output) in
+masked : (a b c : Bool) (x : Masked) (scratch output : List Float) → x.0 ≡ Ok tt
+    → let got : Masked = pick a (pick b (pick c x (Err Logs, scratch, output)) (Err Lengths, scratch, output)) (Err Lengths, scratch, output) in
     (answer_of got.0 ≡ first_of ((not a || not b, 5) ∷ (not c, 6) ∷ [])) × ((answer_of got.0 ≡ 0 → ⊥) → (got.1 ≡ scratch) × (got.2 ≡ output))
 unfolding first_of pick
 masked false b c x scratch output h = (refl, λ n. (refl, refl))
@@ -113,7 +105,7 @@ module _ (f : Frame) (depth : Float) (logs scratch output : List Float) where
   unfolding gains_of
   passed_on =
       masked (eqb (length output) (length scratch)) (eqb (length output) (length logs)) (lawful_logs logs) _ scratch output
-      (either (λ (x : Masked). x.0 ≡ Taken) _ _ _ refl (either (λ (x : Masked). x.0 ≡ Taken) _ _ _ refl refl))
+      (either (λ (x : Masked). x.0 ≡ Ok tt) _ _ _ refl (either (λ (x : Masked). x.0 ≡ Ok tt) _ _ _ refl refl))
 
 -- ---- records of mask files
 abbrev Recorded : Type 0
@@ -123,10 +115,10 @@ recorded : (a b c d e g : Bool) (p : ℕ) (x scratch : List Float) (y out : List
     → let got : Recorded =
     pick a
     (pick b
-    (pick c (W.Refused Record, scratch, out)
-    (pick d (W.Refused Record, scratch, out) (pick e (pick g (W.Upto p, x, y) (W.Refused Room, scratch, out)) (W.Refused Attenuation, scratch, out))))
-    (W.Refused Logs, scratch, out))
-    (W.Refused Lengths, scratch, out) in
+    (pick c (Err Record, scratch, out)
+    (pick d (Err Record, scratch, out) (pick e (pick g (Ok p, x, y) (Err Room, scratch, out)) (Err Attenuation, scratch, out))))
+    (Err Logs, scratch, out))
+    (Err Lengths, scratch, out) in
     (record_number got.0 ≡ first_of ((not a, 5) ∷ (not b, 6) ∷ (c || d, 19) ∷ (not e, 18) ∷ (not g, 13) ∷ []))
     × ((record_number got.0 ≡ 0 → ⊥) → (got.1 ≡ scratch) × (got.2 ≡ out))
 unfolding first_of pick
@@ -154,10 +146,10 @@ module _ (sample : ℕ) (f : Frame) (depth : Float) (logs scratch : List Float) 
       recorded (eqb (length scratch) (length logs)) (lawful_logs logs) (ltb (length logs) 1) (ltb 8193 (length logs)) (all (λ i. not (is_nan (attenuation_at f depth logs i))) (length logs)) (leb (at + (16 + 2 * length logs)) (length out)) _ _ scratch _ out
 
 abbrev Handed : Type 0
-Handed = reader.Read × List ℕ
+Handed = records-in.Read × List ℕ
 
 handed : (a b c d : Bool) (v n k : ℕ) (y lent : List ℕ)
-    → let got : Handed = pick a (M.End, lent) (pick b (pick c (pick d (M.Found v n k, y) (M.Refused Room, lent)) (M.Refused Record, lent)) (M.Refused Record, lent)) in
+    → let got : Handed = pick a (Ok None, lent) (pick b (pick c (pick d (Ok (Some (records-in.found v n k)), y) (Err Room, lent)) (Err Record, lent)) (Err Record, lent)) in
     (found_number got.0 ≡ first_of ((a, 0) ∷ (not b || not c, 19) ∷ (not d, 13) ∷ [])) × ((found_number got.0 ≡ 0 → ⊥) → got.1 ≡ lent)
 unfolding first_of pick
 handed true b c d v n k y lent = (refl, λ u. refl)
@@ -196,17 +188,17 @@ placed-file : (bytes : List ℕ) (ended : Answer) (out : List ℕ) (at : ℕ)
     → let got = placed_by bytes ended out at in
     (filed_number got.0 ≡ first_of ((not (eqb (answer_of ended) 0), answer_of ended) ∷ (not (leb (at + length bytes) (length out)), 13) ∷ [])) × ((filed_number got.0 ≡ 0 → ⊥) → got.1 ≡ out)
 unfolding first_of pick
-placed-file bytes (Refused r) out at = (rw (counts r), λ n. refl)
-placed-file bytes Taken out at = room (leb (at + length bytes) (length out))
+placed-file bytes (Err r) out at = (rw (counts r), λ n. refl)
+placed-file bytes (Ok tt) out at = room (leb (at + length bytes) (length out))
   where
     room : (g : Bool)
-        → let got : Filed × List ℕ = pick g (Files.Upto (at + length bytes), splice out at bytes) (Files.Refused Room, out) in
+        → let got : Filed × List ℕ = pick g (Ok (at + length bytes), splice out at bytes) (Err Room, out) in
         (filed_number got.0 ≡ pick (not g) 13 0) × ((filed_number got.0 ≡ 0 → ⊥) → got.1 ≡ out)
     room true = (refl, λ n. absurd (n refl))
     room false = (refl, λ n. refl)
 
 filed_first : (a b c : Bool) (got : Filed × List ℕ) (out : List ℕ) (rows : List Row) → (filed_number got.0 ≡ first_of rows) × ((filed_number got.0 ≡ 0 → ⊥) → got.1 ≡ out)
-    → let all : Filed × List ℕ = pick a (Files.Refused Size, out) (pick b (Files.Refused Size, out) (pick c (Files.Refused Script, out) got)) in
+    → let all : Filed × List ℕ = pick a (Err Size, out) (pick b (Err Size, out) (pick c (Err Script, out) got)) in
     (filed_number all.0 ≡ first_of ((a || b, 3) ∷ (c, 12) ∷ rows)) × ((filed_number all.0 ≡ 0 → ⊥) → all.1 ≡ out)
 unfolding first_of pick
 filed_first true b c got out rows h = (refl, λ n. refl)
@@ -217,8 +209,8 @@ filed_first false false false got out rows h = h
 -- ---- a field of a script
 field_read : (a first b c d f g h : Bool) (x : Field) (k : ℕ)
     → read_number
-    (cond a (cond first (R.Bad Place) R.End)
-    (cond b (R.Bad HeaderCut) (cond c (R.Bad Place) (cond d (R.Bad Tag) (cond f (cond g (cond h (R.Field x k) (R.Bad Value)) (R.Bad ValueCut)) (R.Bad WrongLength))))))
+    (cond a (cond first (Err Place) (Ok None))
+    (cond b (Err HeaderCut) (cond c (Err Place) (cond d (Err Tag) (cond f (cond g (cond h (Ok (Some (x, k))) (Err Value)) (Err ValueCut)) (Err WrongLength))))))
     ≡ first_of ((a && first, 11) ∷ (a, 0) ∷ (b, 14) ∷ (c, 11) ∷ (d, 8) ∷ (not f, 15) ∷ (not g, 16) ∷ (not h, 10) ∷ [])
 unfolding first_of pick
 field_read true true b c d f g h x k = refl
@@ -231,21 +223,21 @@ field_read false first false false false true false h x k = refl
 field_read false first false false false true true false x k = refl
 field_read false first false false false true true true x k = refl
 
-field_told : (before : Run) (n at : ℕ) (s : List ℕ) (r : Refusal) → read_of (drop at s) (eqb n 1) ≡ R.Bad r → (turn_of before n at s).line ≡ L.Bad n r (pick (eqb (number_of r) 14) (length s) at)
+field_told : (before : Run) (n at : ℕ) (s : List ℕ) (r : Refusal) → read_of (drop at s) (eqb n 1) ≡ Err r → (turn_of before n at s).line ≡ L.Bad n r (pick (eqb (number_of r) 14) (length s) at)
 unfolding turn_of bad_place
 field_told before n at s r e = ap (λ (x : Read). (after_of before n at s x).line) e
 
 -- ---- a whole script
-entered : (a b : Bool) (x y : Ended) → y.answer ≡ Refused Script → (rows : List Row) → answer_of x.answer ≡ first_of rows
-    → answer_of (pick a (cond b x y).answer (Refused Lengths)) ≡ first_of ((not a, 5) ∷ (not b, 12) ∷ rows)
+entered : (a b : Bool) (x y : Ended) → y.answer ≡ Err Script → (rows : List Row) → answer_of x.answer ≡ first_of rows
+    → answer_of (pick a (cond b x y).answer (Err Lengths)) ≡ first_of ((not a, 5) ∷ (not b, 12) ∷ rows)
 unfolding first_of pick
 entered false b x y h rows k = refl
 entered true false x y h rows k = ap answer_of h
 entered true true x y h rows k = k
 
 unwritten : (a : Answer) (bytes o : List ℕ) → (answer_of a ≡ 0 → ⊥) → if_taken a bytes o ≡ o
-unwritten Taken bytes o n = absurd (n refl)
-unwritten (Refused r) bytes o n = refl
+unwritten (Ok tt) bytes o n = absurd (n refl)
+unwritten (Err r) bytes o n = refl
 
 entry_unwritten : (s o : List ℕ) → (answer_of (entry_answer s o) ≡ 0 → ⊥) → entry_bytes s o ≡ o
 unfolding entry_bytes

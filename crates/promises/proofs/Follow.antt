@@ -1,4 +1,5 @@
 -- The turns of a script go over the list of its fields.
+use Rattle.std.specs.Prelude.{Some, None, Ok, Err}
 use Prim.Native.Nat.{ℕ, zero, suc, ◌+◌, ◌<◌}
 use mathlib.Core.Path.{◌≡◌, refl, sym, ap, ◌∙◌}
 use mathlib.Core.Bool.{false, true≢false}
@@ -9,8 +10,7 @@ use lib.Seq.{drop-drop}
 use lib.Dec.{eqb}
 use Rattle.sequences.specs.Pick.{by-case}
 use Rattle.script_steps.specs.declared.Run.{Run}
-use Rattle.script_steps.specs.declared.Reply.{Reply}
-use Rattle.script_steps.specs.declared.Reply.TheVariants as P
+use Rattle.script_steps.specs.Replies.{Reply}
 use Rattle.script_steps.specs.Steps.{fresh, step_of}
 use Rattle.refusals.specs.declared.Refusal.{Refusal}
 use Rattle.listing.specs.declared.turns.Turn.{Turn}
@@ -24,9 +24,9 @@ refusal_taken : (n : ℕ) (run : Run) (at k : ℕ) (r : Refusal) → eqb (refusa
 refusal_taken n run at k r h = by-case (eqb n 1) (λ y. absurd (true≢false (rw y at h))) (λ y. rw y)
 
 replied-taken : (n at k : ℕ) (run : Run) (a : Reply) → eqb (replied_of n at k run a).taken 0 ≡ false → (replied_of n at k run a).taken ≡ k
-replied-taken n at k run P.Quiet h = refl
-replied-taken n at k run (P.Refused r) h = refusal_taken n run at k r h
-replied-taken n at k run (P.Framed v) h = refl
+replied-taken n at k run (Ok None) h = refl
+replied-taken n at k run (Err r) h = refusal_taken n run at k r h
+replied-taken n at k run (Ok (Some v)) h = refl
 
 -- in a script, which has s from `at` on
 pub from-follows : (script : List ℕ) {n at : ℕ} {s : List ℕ} {r : Reading} → Reads n at s r → drop at script ≡ s → (most : ℕ) (run : Run) → length s < most

@@ -1,4 +1,5 @@
 -- No call but an accepted frame frees: the acts of every other call are quiet.
+use Rattle.std.specs.Prelude.{Ok, Err}
 use Prim.Native.Nat.{ℕ, zero, suc}
 use mathlib.Core.Path.{◌≡◌, refl, sym, ap, ◌∙◌, subst}
 use mathlib.Core.Bool.{Bool, true, false, ◌&&◌}
@@ -7,8 +8,7 @@ use lib.Dec.{T}
 use lib.Ieee.{Float}
 use Rattle.sequences.specs.Pick.{picked, passed, either, by-case}
 use Rattle.sequences.specs.Times.{iterate}
-use Rattle.refusals.specs.declared.Answer.{Answer}
-use Rattle.refusals.specs.declared.Answer.TheVariants.{Taken, Refused}
+use Rattle.refusals.specs.Numbers.{Answer}
 use Rattle.settings.specs.declared.Config.{Config}
 use Rattle.settings.specs.declared.Shape.{Shape}
 use Rattle.settings.specs.declared.Shape.TheVariants.{Sprinkle, Cloud}
@@ -104,8 +104,8 @@ configure-quiet e c =
     (append (offset_acts kind c.phase) (settings c ∷ last) (either Quiet _ _ _ tt tt) (restart-quiet (with_config (offset kind c.phase) c) e.config)))
 
 checked-quiet : (a : Answer) (e : Engine) (c : Config) → Quiet (checked_acts a e c)
-checked-quiet Taken e c = configure-quiet e (mended_of c)
-checked-quiet (Refused r) e c = tt
+checked-quiet (Ok tt) e c = configure-quiet e (mended_of c)
+checked-quiet (Err r) e c = tt
 
 trigger-quiet : (e : Engine) (slot index : ℕ) → Quiet (trigger_acts e slot index)
 unfolding trigger_acts

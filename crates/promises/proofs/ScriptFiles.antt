@@ -1,4 +1,5 @@
 -- The mask file of a script, where the call takes it: the records of its accepted frames, and that they are read back.
+use Rattle.std.specs.Prelude.{Ok, Err}
 use Prim.Native.Nat.{ℕ, ◌+◌, ◌≤◌}
 use native.Mathlib.Omega.{arith}
 use mathlib.Core.Path.{◌≡◌, refl, sym, ap, ◌∙◌}
@@ -11,8 +12,7 @@ use lib.ListN.{length}
 use Rattle.sequences.specs.Every.{Every}
 use Rattle.sequences.specs.Pick.{pick, went_left, went_right}
 use Rattle.text.specs.Put.{splice}
-use Rattle.refusals.specs.declared.Answer.{Answer}
-use Rattle.refusals.specs.declared.Answer.TheVariants as A
+use Rattle.refusals.specs.Numbers.{Answer}
 use Rattle.refusals.specs.declared.Refusal.{Refusal}
 use Rattle.refusals.specs.declared.Refusal.TheVariants.{Size, Script, Room}
 use Rattle.windows.specs.declared.Frame.{Frame}
@@ -24,10 +24,8 @@ use Rattle.mask_records.specs.Bytes.{file_of}
 use Rattle.mask_laws.specs.Files.{Record, WholeRecord, ReadsAs}
 use Rattle.mask_laws.proofs.Files.{file_back}
 use Rattle.mask_laws.proofs.Frames.{entries-count, entries-known}
-use Rattle.mask_files.specs.declared.Filed.{Filed}
-use Rattle.mask_files.specs.declared.Filed.TheVariants.{Upto, Refused}
+use Rattle.mask_files.specs.Masks.{Filed, logs_for, placed_by, masks_of}
 use Rattle.mask_files.specs.Records.{filed_of, record_by, records_in}
-use Rattle.mask_files.specs.Masks.{logs_for, placed_by, masks_of}
 use Rattle.mask_files.proofs.Logs.{logs_count}
 use Rattle.mask_files.proofs.Records.{filed_records}
 
@@ -52,25 +50,25 @@ abbrev Both : Type 0
 Both = Filed × List ℕ
 
 abbrev Placed : ℕ → Both → Type 0
-Placed p x = x.0 ≡ Upto p
+Placed p x = x.0 ≡ Ok p
 
 is-placed : Filed → Bool
-is-placed (Upto p) = true
-is-placed (Refused k) = false
+is-placed (Ok p) = true
+is-placed (Err k) = false
 
-refused_not : (k : Refusal) (p : ℕ) → Refused k ≡ Upto p → ⊥
+refused_not : (k : Refusal) (p : ℕ) → ◌≡◌ {A = Filed} (Err k) (Ok p) → ⊥
 unfolding is-placed
 refused_not k p e = false≢true (ap is-placed e)
 
-placed_at : (p q : ℕ) → Upto q ≡ Upto p → p ≡ q
+placed_at : (p q : ℕ) → ◌≡◌ {A = Filed} (Ok q) (Ok p) → p ≡ q
 placed_at p q e = cc
 
-placed-whole : (bytes : List ℕ) (ended : Answer) (out : List ℕ) (at p : ℕ) → (placed_by bytes ended out at).0 ≡ Upto p
-    → (ended ≡ A.Taken) × (p ≡ at + length bytes) × ((placed_by bytes ended out at).1 ≡ splice out at bytes)
-placed-whole bytes (A.Refused r) out at p e = absurd (refused_not r p e)
-placed-whole bytes A.Taken out at p e =
-    let done : Both = (Upto (at + length bytes), splice out at bytes) in
-    let a = went_left (Placed p) done (Refused Room, out) (leb (at + length bytes) (length out)) (refused_not Room p) e in
+placed-whole : (bytes : List ℕ) (ended : Answer) (out : List ℕ) (at p : ℕ) → (placed_by bytes ended out at).0 ≡ Ok p
+    → (ended ≡ Ok tt) × (p ≡ at + length bytes) × ((placed_by bytes ended out at).1 ≡ splice out at bytes)
+placed-whole bytes (Err r) out at p e = absurd (refused_not r p e)
+placed-whole bytes (Ok tt) out at p e =
+    let done : Both = (Ok (at + length bytes), splice out at bytes) in
+    let a = went_left (Placed p) done (Err Room, out) (leb (at + length bytes) (length out)) (refused_not Room p) e in
     (refl, placed_at p (at + length bytes) (ap (λ (x : Both). x.0) (sym a.1) ∙ e), ap (λ (x : Both). x.1) a.1)
 
 module _ (script : List ℕ) (size : ℕ) (depth : Float) (out : List ℕ) (at p : ℕ) where
@@ -80,19 +78,19 @@ module _ (script : List ℕ) (size : ℕ) (depth : Float) (out : List ℕ) (at p
   abbrev rs : List Record
   rs = records_in depth logs (turns_of script)
 
-  pub script_file : (masks_of script size depth out at).0 ≡ Upto p → (p ≡ at + length (file_of rs)) × ((masks_of script size depth out at).1 ≡ splice out at (file_of rs)) × ReadsAs (file_of rs) rs
+  pub script_file : (masks_of script size depth out at).0 ≡ Ok p → (p ≡ at + length (file_of rs)) × ((masks_of script size depth out at).1 ≡ splice out at (file_of rs)) × ReadsAs (file_of rs) rs
   unfolding masks_of
   script_file e =
       let filed = filed_of depth logs (turns_of script) in
       let x3 : Both = placed_by filed.0 filed.1 out at in
-      let x2 : Both = pick (ltb 60000 (length script)) (Refused Script, out) x3 in
-      let x1 : Both = pick (ltb 16384 size) (Refused Size, out) x2 in
-      let a1 = went_right (Placed p) (Refused Size, out) x1 (ltb size 1) (refused_not Size p) e in
-      let e1 : x1.0 ≡ Upto p = ap (λ (x : Both). x.0) (sym a1.1) ∙ e in
-      let a2 = went_right (Placed p) (Refused Size, out) x2 (ltb 16384 size) (refused_not Size p) e1 in
-      let e2 : x2.0 ≡ Upto p = ap (λ (x : Both). x.0) (sym a2.1) ∙ e1 in
-      let a3 = went_right (Placed p) (Refused Script, out) x3 (ltb 60000 (length script)) (refused_not Script p) e2 in
-      let e3 : x3.0 ≡ Upto p = ap (λ (x : Both). x.0) (sym a3.1) ∙ e2 in
+      let x2 : Both = pick (ltb 60000 (length script)) (Err Script, out) x3 in
+      let x1 : Both = pick (ltb 16384 size) (Err Size, out) x2 in
+      let a1 = went_right (Placed p) (Err Size, out) x1 (ltb size 1) (refused_not Size p) e in
+      let e1 : x1.0 ≡ (Ok p) = ap (λ (x : Both). x.0) (sym a1.1) ∙ e in
+      let a2 = went_right (Placed p) (Err Size, out) x2 (ltb 16384 size) (refused_not Size p) e1 in
+      let e2 : x2.0 ≡ (Ok p) = ap (λ (x : Both). x.0) (sym a2.1) ∙ e1 in
+      let a3 = went_right (Placed p) (Err Script, out) x3 (ltb 60000 (length script)) (refused_not Script p) e2 in
+      let e3 : x3.0 ≡ (Ok p) = ap (λ (x : Both). x.0) (sym a3.1) ∙ e2 in
       let w = placed-whole filed.0 filed.1 out at p e3 in
       let lo = ltb-false size 1 a1.0 in
       let hi = ltb-false 16384 size a2.0 in

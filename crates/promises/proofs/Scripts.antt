@@ -1,4 +1,5 @@
 -- A script is a run: field by field over the list of its fields, which the turns of a script follow.
+use Rattle.std.specs.Prelude.{Some, None, Ok, Err}
 use Prim.Native.Nat.{ℕ, zero, suc, ◌+◌}
 use mathlib.Core.Path.{◌≡◌, refl, sym, ap, ◌∙◌, subst}
 use mathlib.Core.Bool.{Bool, true, false, cond}
@@ -12,17 +13,15 @@ use lib.Ieee.Bits.{of_bits-fits}
 use Rattle.floats.specs.Names.{Single}
 use Rattle.sequences.specs.Every.{Every}
 use Rattle.sequences.specs.Pick.{by-case}
-use Rattle.refusals.specs.declared.Answer.{Answer}
-use Rattle.refusals.specs.declared.Answer.TheVariants as A
+use Rattle.refusals.specs.Numbers.{Answer}
 use Rattle.state.specs.declared.Done.{Done}
 use Rattle.state.specs.declared.Engine.{Engine}
-use Rattle.engine_triggers.specs.declared.Outcome.{Outcome}
-use Rattle.engine_triggers.specs.declared.Outcome.TheVariants as O
+use Rattle.engine_triggers.specs.Triggers.{Fired, triggered_of, triggered_by}
+use Rattle.engine_triggers.specs.declared.Outcome.TheVariants.{Born, NotEligible, Dropped}
 use Rattle.engine_triggers.specs.declared.Triggered.{Triggered}
 use Rattle.engine.specs.New.{new_engine_of, reset_of}
 use Rattle.engine_changes.specs.Changes.{configured_of}
 use Rattle.engine_sources.specs.Slots.{set_source_of, retire_source_of, release_source_of}
-use Rattle.engine_triggers.specs.Triggers.{triggered_of, triggered_by}
 use Rattle.engine.specs.Advance.{advanced_of}
 use Rattle.frame.specs.declared.Framed.{Framed}
 use Rattle.frame.specs.Call.{framed_of as take_frame_of}
@@ -37,8 +36,7 @@ use Rattle.script.proofs.Steps.{Reads, field, wrong, end, onward-reads}
 use Rattle.script.proofs.Whole.{whole, kind_at, value_of}
 use Rattle.script_writer_laws.specs.Events.{events}
 use Rattle.script_steps.specs.declared.Run.{Run}
-use Rattle.script_steps.specs.declared.Reply.{Reply}
-use Rattle.script_steps.specs.declared.Reply.TheVariants as R
+use Rattle.script_steps.specs.Replies.{Reply}
 use Rattle.script_steps.specs.Steps.{fresh, answered_of, done_of, outcome_step, fired_of, frame_step_of, framed_step, source_of, step_of}
 use Rattle.listing.specs.declared.turns.Turn.{Turn}
 use Rattle.listing.specs.Turns.{told_of, refusal_of, replied_of, turns_of}
@@ -57,24 +55,24 @@ done_engine : (before : Run) (d : Done) → (done_of before d).run.engine ≡ d.
 done_engine before d = go d.answer
   where
     go : (a : Answer) → (answered_of before d.engine a).run.engine ≡ d.engine
-    go A.Taken = refl
-    go (A.Refused r) = refl
+    go (Ok tt) = refl
+    go (Err r) = refl
 
 fired_engine : (before : Run) (t : Triggered) → (fired_of before t).run.engine ≡ t.engine
 fired_engine before t = go t.outcome
   where
-    go : (o : Outcome) → (outcome_step before t.engine o).run.engine ≡ t.engine
-    go O.Born = refl
-    go O.NotEligible = refl
-    go O.Dropped = refl
-    go (O.Refused r) = refl
+    go : (o : Fired) → (outcome_step before t.engine o).run.engine ≡ t.engine
+    go (Ok Born) = refl
+    go (Ok NotEligible) = refl
+    go (Ok Dropped) = refl
+    go (Err r) = refl
 
 framed_engine : (before : Run) (f : Framed) → (framed_step before f).run.engine ≡ f.engine
 framed_engine before f = go f.answer
   where
     go : (a : Answer) → (frame_step_of before f.engine f.frame a).run.engine ≡ f.engine
-    go A.Taken = refl
-    go (A.Refused r) = refl
+    go (Ok tt) = refl
+    go (Err r) = refl
 
 -- what an event does to an engine
 abbrev after : Engine → Move → Engine
@@ -139,13 +137,13 @@ goes_on s before between after q cs h =
 
 -- ---- the turns over a list of fields
 replied-run : (n at size : ℕ) (r : Run) (a : Reply) → (replied_of n at size r a).run ≡ r
-replied-run n at size r R.Quiet = refl
-replied-run n at size r (R.Refused c) = go (eqb n 1)
+replied-run n at size r (Ok None) = refl
+replied-run n at size r (Err c) = go (eqb n 1)
   where
     go : (first : Bool) → (refusal_of first r n at size c).run ≡ r
     go true = refl
     go false = refl
-replied-run n at size r (R.Framed v) = refl
+replied-run n at size r (Ok (Some v)) = refl
 
 pub nothing-after : {A X : Type 0} (xs ys : List A) (x : A) → [] ≡ xs ++ x ∷ ys → X
 nothing-after [] ys x q = absurd (let z : ◌≡◌ {A = ℕ} 0 1 = cc in omega arith)

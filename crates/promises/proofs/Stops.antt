@@ -1,4 +1,5 @@
 -- How a script stops: over the list of its fields, which its turns follow, from the first, the rate, to the verdict.
+use Rattle.std.specs.Prelude.{Some, None, Ok, Err}
 use Prim.Native.Nat.{ℕ, suc, ◌+◌, ◌≤◌, ◌<◌}
 use native.Mathlib.Nat.{zero-add}
 use native.Mathlib.Omega.{arith}
@@ -22,7 +23,6 @@ use Rattle.script.specs.Table.{kind_of, field_of}
 use Rattle.script.specs.declared.fields.Field.{Field}
 use Rattle.script.specs.declared.fields.Field.TheVariants as F
 use Rattle.script.specs.Field.{misplaced, read_of}
-use Rattle.script.specs.declared.Read.TheVariants as R
 use Rattle.script.specs.Reading.{Placed, Reading, Verdict, field_at, in_front, ended, bad, onward}
 use Rattle.script.proofs.Steps.{Reads, field, wrong, end, onward-reads, moved}
 use Rattle.script.proofs.Places.{stops_at}
@@ -30,8 +30,7 @@ use Rattle.script.proofs.Whole.{whole}
 use Rattle.script_writer_laws.specs.Events.{events}
 use Rattle.script_writer_laws.proofs.OneRate.{one-rate}
 use Rattle.script_steps.specs.declared.Run.{Run}
-use Rattle.script_steps.specs.declared.Reply.{Reply}
-use Rattle.script_steps.specs.declared.Reply.TheVariants as P
+use Rattle.script_steps.specs.Replies.{Reply}
 use Rattle.script_steps.specs.Steps.{fresh, done_of, step_of}
 use Rattle.listing.specs.declared.lines.Line.{Line}
 use Rattle.listing.specs.declared.lines.Line.TheVariants as L
@@ -52,21 +51,21 @@ use Rattle.promises.proofs.Scripts.{nothing-after, turn_at, turn_moved}
 -- ---- one turn
 -- its line says what the reply does
 says : (n at k : ℕ) (r : Run) (a : Reply) → refused_number (replied_of n at k r a).line ≡ reply_number a
-says n at k r P.Quiet = refl
-says n at k r (P.Refused c) = by-case (eqb n 1) (λ y. rw y) (λ y. rw y)
-says n at k r (P.Framed v) = refl
+says n at k r (Ok None) = refl
+says n at k r (Err c) = by-case (eqb n 1) (λ y. rw y) (λ y. rw y)
+says n at k r (Ok (Some v)) = refl
 
 -- behind the first field it takes the field's bytes and the script goes on
 module _ (n at k : ℕ) (r : Run) (l : eqb n 1 ≡ false) where
   takes : (a : Reply) → (replied_of n at k r a).taken ≡ k
-  takes P.Quiet = refl
-  takes (P.Refused c) = rw l
-  takes (P.Framed v) = refl
+  takes (Ok None) = refl
+  takes (Err c) = rw l
+  takes (Ok (Some v)) = refl
 
   goes : (a : Reply) → reads_on (replied_of n at k r a).line ≡ true
-  goes P.Quiet = refl
-  goes (P.Refused c) = rw l
-  goes (P.Framed v) = refl
+  goes (Ok None) = refl
+  goes (Err c) = rw l
+  goes (Ok (Some v)) = refl
 
 -- ---- from the second field on
 record Goes (run : Run) (n : ℕ) (r : Reading) (p : ℕ) : Type 0 where
@@ -97,7 +96,7 @@ from_second {n} (wrong {c = c} e) h p run = record { turns = []; last = told_of 
 from_second {n} (end e) h p run = record { turns = []; last = told_of run (last_line n p ended) 0; split = refl; one_each = refl; go_on = tt; at_last = ap (λ (m : ℕ). last_line m p ended) (omega arith) }
 
 -- ---- the first field, the rate
-first-rate : (s : List ℕ) {f : Field} {k : ℕ} → read_of s true ≡ R.Field f k → f ≡ F.Rate (f32_at (drop 3 s) 0)
+first-rate : (s : List ℕ) {f : Field} {k : ℕ} → read_of s true ≡ Ok (Some (f, k)) → f ≡ F.Rate (f32_at (drop 3 s) 0)
 unfolding misplaced
 first-rate s e =
     let w = whole s true e in
@@ -105,11 +104,11 @@ first-rate s e =
     (λ y. sym w.is ∙ ap (λ (t : ℕ). field_of (kind_of t) (drop 3 s)) (eqb-true (get_or s 0 0) 1 y))
     (λ y. absurd (true≢false (rw y at w.in_place)))
 
-rate_reply : (x : Float) → (step_of fresh (F.Rate x)).reply ≡ pick (lawful_rate x) P.Quiet (P.Refused Rate)
+rate_reply : (x : Float) → (step_of fresh (F.Rate x)).reply ≡ pick (lawful_rate x) (Ok None) (Err Rate)
 unfolding step_of new_engine_of pick
 rate_reply x = go (lawful_rate x) _ _
   where
-    go : (b : Bool) (y z : Engine) → (done_of fresh (pick b (taken y) (refused Rate z))).reply ≡ pick b P.Quiet (P.Refused Rate)
+    go : (b : Bool) (y z : Engine) → (done_of fresh (pick b (taken y) (refused Rate z))).reply ≡ pick b (Ok None) (Err Rate)
     go true y z = refl
     go false y z = refl
 
@@ -124,7 +123,7 @@ open_rate x k {r = r} lo d p =
     let run = (step_of fresh (F.Rate x)).run in
     by-case (lawful_rate x)
     (λ y.
-    let quiet : (step_of fresh (F.Rate x)).reply ≡ P.Quiet = rate_reply x ∙ sym (picked (lawful_rate x) P.Quiet (P.Refused Rate) y) in
+    let quiet : (step_of fresh (F.Rate x)).reply ≡ (Ok None) = rate_reply x ∙ sym (picked (lawful_rate x) (Ok None) (Err Rate) y) in
     let rest = from_second d (omega arith) p run in
     went_on x (events r) refl (ap not y)
     (record {
@@ -136,12 +135,12 @@ open_rate x k {r = r} lo d p =
       at_last = rest.at_last ∙ ap (λ (m : ℕ). last_line m p r.verdict) (omega arith);
     }))
     (λ y.
-    let refusal : (step_of fresh (F.Rate x)).reply ≡ P.Refused Rate = rate_reply x ∙ sym (passed (lawful_rate x) P.Quiet (P.Refused Rate) y) in
+    let refusal : (step_of fresh (F.Rate x)).reply ≡ (Err Rate) = rate_reply x ∙ sym (passed (lawful_rate x) (Ok None) (Err Rate) y) in
     stopped x (events r) run refl (ap not y) (rw refusal))
 
 opens : {n at : ℕ} {s : List ℕ} {r : Reading} → Reads n at s r → n ≡ 1 → at ≡ 0 → (p : ℕ) → Opens r p
 opens {s = s} (field {at = at} {f = f} {k = k} {r = r} e lo hi d) q z p =
-    let first : read_of s true ≡ R.Field f k = rw q at e in
+    let first : read_of s true ≡ (Ok (Some (f, k))) = rw q at e in
     rw (z, first-rate s first) (open_rate (f32_at (drop 3 s) 0) k lo (moved (omega arith) (omega arith) refl d) p)
 opens (wrong e) q z p = none refl
 opens (end e) q z p = none refl

@@ -1,4 +1,5 @@
 -- The line of an accepted frame tells of the engine after its turn.
+use Rattle.std.specs.Prelude.{Some, None, Ok, Err}
 use Prim.Native.Nat.{ℕ, zero, suc, ◌+◌}
 use mathlib.Core.Path.{◌≡◌, refl, subst}
 use mathlib.Core.Bool.{Bool, true, false, cond}
@@ -7,14 +8,12 @@ use lib.Dec.{eqb}
 use lib.ListN.{length, drop}
 use lib.Ieee.{Float}
 use Rattle.sequences.specs.Every.{Every, every_there}
-use Rattle.refusals.specs.declared.Answer.{Answer}
-use Rattle.refusals.specs.declared.Answer.TheVariants as A
+use Rattle.refusals.specs.Numbers.{Answer}
 use Rattle.state.specs.declared.Done.{Done}
 use Rattle.state.specs.declared.Engine.{Engine}
-use Rattle.engine_triggers.specs.declared.Outcome.{Outcome}
-use Rattle.engine_triggers.specs.declared.Outcome.TheVariants as O
+use Rattle.engine_triggers.specs.Triggers.{Fired, triggered_of, triggered_by}
+use Rattle.engine_triggers.specs.declared.Outcome.TheVariants.{Born, NotEligible, Dropped}
 use Rattle.engine_triggers.specs.declared.Triggered.{Triggered}
-use Rattle.engine_triggers.specs.Triggers.{triggered_of, triggered_by}
 use Rattle.engine.specs.New.{new_engine_of}
 use Rattle.engine_changes.specs.Changes.{configured_of}
 use Rattle.engine_sources.specs.Slots.{set_source_of, retire_source_of, release_source_of}
@@ -23,12 +22,9 @@ use Rattle.frame.specs.declared.Framed.{Framed}
 use Rattle.frame.specs.Call.{framed_of as take_frame_of}
 use Rattle.script.specs.declared.fields.Field.{Field}
 use Rattle.script.specs.declared.fields.Field.TheVariants as F
-use Rattle.script.specs.declared.Read.{Read}
-use Rattle.script.specs.declared.Read.TheVariants as S
-use Rattle.script.specs.Field.{read_of}
+use Rattle.script.specs.Field.{Read, read_of}
 use Rattle.script_steps.specs.declared.Run.{Run}
-use Rattle.script_steps.specs.declared.Reply.{Reply}
-use Rattle.script_steps.specs.declared.Reply.TheVariants as R
+use Rattle.script_steps.specs.Replies.{Reply}
 use Rattle.script_steps.specs.declared.Stepped.{Stepped}
 use Rattle.script_steps.specs.Steps.{fresh, answered_of, done_of, outcome_step, fired_of, frame_step_of, framed_step, source_of, step_of}
 use Rattle.script_steps.specs.Values.{values_of}
@@ -47,9 +43,9 @@ Tells e (L.End n) = Unit {0}
 
 -- ---- a field
 abbrev Says : Engine → Reply → Type 0
-Says e R.Quiet = Unit {0}
-Says e (R.Refused r) = Unit {0}
-Says e (R.Framed v) = (activity : Float) × (v ≡ values_of e activity)
+Says e (Ok None) = Unit {0}
+Says e (Err r) = Unit {0}
+Says e (Ok (Some v)) = (activity : Float) × (v ≡ values_of e activity)
 
 abbrev StepSays : Stepped → Type 0
 StepSays s = Says s.run.engine s.reply
@@ -58,24 +54,24 @@ done-says : (before : Run) (d : Done) → StepSays (done_of before d)
 done-says before d = go d.answer
   where
     go : (a : Answer) → StepSays (answered_of before d.engine a)
-    go A.Taken = tt
-    go (A.Refused r) = tt
+    go (Ok tt) = tt
+    go (Err r) = tt
 
 fired-says : (before : Run) (t : Triggered) → StepSays (fired_of before t)
 fired-says before t = go t.outcome
   where
-    go : (o : Outcome) → StepSays (outcome_step before t.engine o)
-    go O.Born = tt
-    go O.NotEligible = tt
-    go O.Dropped = tt
-    go (O.Refused r) = tt
+    go : (o : Fired) → StepSays (outcome_step before t.engine o)
+    go (Ok Born) = tt
+    go (Ok NotEligible) = tt
+    go (Ok Dropped) = tt
+    go (Err r) = tt
 
 framed_says : (before : Run) (f : Framed) → StepSays (framed_step before f)
 framed_says before f = go f.answer
   where
     go : (a : Answer) → StepSays (frame_step_of before f.engine f.frame a)
-    go A.Taken = (f.frame.activity, refl)
-    go (A.Refused r) = tt
+    go (Ok tt) = (f.frame.activity, refl)
+    go (Err r) = tt
 
 step-says : (before : Run) (f : Field) → StepSays (step_of before f)
 unfolding step_of
@@ -98,18 +94,18 @@ abbrev TurnTells : Turn → Type 0
 TurnTells t = Tells t.run.engine t.line
 
 replied_tells : (n at k : ℕ) (r : Run) (a : Reply) → Says r.engine a → TurnTells (replied_of n at k r a)
-replied_tells n at k r R.Quiet s = tt
-replied_tells n at k r (R.Refused c) s = go (eqb n 1)
+replied_tells n at k r (Ok None) s = tt
+replied_tells n at k r (Err c) s = go (eqb n 1)
   where
     go : (first : Bool) → TurnTells (refusal_of first r n at k c)
     go true = tt
     go false = tt
-replied_tells n at k r (R.Framed v) s = s
+replied_tells n at k r (Ok (Some v)) s = s
 
 after_tells : (before : Run) (n at : ℕ) (s : List ℕ) (r : Read) → TurnTells (after_of before n at s r)
-after_tells before n at s (S.Field f k) = replied_tells n at k (step_of before f).run (step_of before f).reply (step-says before f)
-after_tells before n at s (S.Bad r) = tt
-after_tells before n at s S.End = tt
+after_tells before n at s (Ok (Some (f, k))) = replied_tells n at k (step_of before f).run (step_of before f).reply (step-says before f)
+after_tells before n at s (Err r) = tt
+after_tells before n at s (Ok None) = tt
 
 turn_tells : (before : Run) (n at : ℕ) (s : List ℕ) → TurnTells (turn_of before n at s)
 unfolding turn_of

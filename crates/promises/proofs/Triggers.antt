@@ -1,4 +1,5 @@
 -- What a trigger answers: the tests of its birth, in order, and the place that the new particle has.
+use Rattle.std.specs.Prelude.{Ok, Err}
 use Prim.Native.Nat.{ℕ, ◌<◌, ◌≤◌, ◌^◌}
 use native.Mathlib.Omega.{arith}
 use mathlib.Core.Path.{◌≡◌, sym, ap, ◌∙◌, subst}
@@ -18,7 +19,8 @@ use Rattle.state.specs.declared.Engine.{Engine}
 use Rattle.floats.specs.Word.{grown}
 use Rattle.state.specs.Tallies.{born_one}
 use Rattle.births.specs.Birth.{chosen_for, voice_for, newborn_for, attempted_of, born_of}
-use Rattle.engine_triggers.specs.declared.Outcome.TheVariants.{Born, NotEligible, Dropped, Refused}
+use Rattle.engine_triggers.specs.Triggers.{Fired}
+use Rattle.engine_triggers.specs.declared.Outcome.TheVariants.{Born, NotEligible, Dropped}
 use Rattle.engine_triggers.specs.declared.Triggered.{Triggered}
 use Rattle.engine_triggers.specs.Triggers.{triggered_with, reserved_of, is_permitted, outcome_of, triggered_by, triggered_of}
 use Rattle.engine_laws.specs.Acts.{act, perform, trigger_acts, reserved, acts_of, applied}
@@ -30,13 +32,13 @@ use Rattle.promises.proofs.Lives.{lowest-is}
 use Rattle.promises.proofs.Stories.{moved_on, settled_so, dropped_so, placed}
 
 -- ---- `dropped` tells which it was
-born-outcome : (e out : Engine) → out.tally.dropped ≡ e.tally.dropped → (outcome_of e out).outcome ≡ Born
-born-outcome e out q = ap (λ (t : Triggered). t.outcome) (sym (picked _ (triggered_with Born out) (triggered_with Dropped out) (eq-eqb out.tally.dropped e.tally.dropped q)))
+born-outcome : (e out : Engine) → out.tally.dropped ≡ e.tally.dropped → (outcome_of e out).outcome ≡ Ok Born
+born-outcome e out q = ap (λ (t : Triggered). t.outcome) (sym (picked _ (triggered_with (Ok Born) out) (triggered_with (Ok Dropped) out) (eq-eqb out.tally.dropped e.tally.dropped q)))
 
-dropped-outcome : (e out : Engine) → out.tally.dropped ≡ grown e.tally.dropped → (outcome_of e out).outcome ≡ Dropped
+dropped-outcome : (e out : Engine) → out.tally.dropped ≡ grown e.tally.dropped → (outcome_of e out).outcome ≡ Ok Dropped
 dropped-outcome e out q =
     ap (λ (t : Triggered). t.outcome)
-    (sym (passed _ (triggered_with Born out) (triggered_with Dropped out) (ne_eqb out.tally.dropped e.tally.dropped (λ h. moved_on e.tally.dropped (sym h ∙ q)))))
+    (sym (passed _ (triggered_with (Ok Born) out) (triggered_with (Ok Dropped) out) (ne_eqb out.tally.dropped e.tally.dropped (λ h. moved_on e.tally.dropped (sym h ∙ q)))))
 
 -- ---- no place is free exactly where all are held
 module _ (e : Engine) (len : Places e) where
@@ -65,7 +67,7 @@ module _ (e : Engine) (len : Places e) (slot index : ℕ) (s : ltb slot 256 ≡ 
   unfolding born_of attempted_of
   worn_out a = ap (λ (x : Engine). x.tally.dropped) (sym (picked (eqb e.tally.attempts 64) _ _ a))
 
-  birth-answers : (outcome_of e (born_of e index slot)).outcome ≡ pick (eqb e.tally.attempts 64 || full e) Dropped Born
+  birth-answers : (outcome_of e (born_of e index slot)).outcome ≡ pick (eqb e.tally.attempts 64 || full e) (Ok Dropped) (Ok Born)
   unfolding act pick born_one
   birth-answers =
       by-case (eqb e.tally.attempts 64) (λ a. rw a (dropped-outcome e (born_of e index slot) (worn_out a)))
@@ -74,7 +76,7 @@ module _ (e : Engine) (len : Places e) (slot index : ℕ) (s : ltb slot 256 ≡ 
       (λ f. rw (a, not_full e len f) (born-outcome e (born_of e index slot) (sym (ap (λ (x : Engine). x.tally.dropped) (settled_so e len index slot a allowed f)))))
       (λ f. rw (a, is-full e len f) (dropped-outcome e (born_of e index slot) (sym (ap (λ (x : Engine). x.tally.dropped) (dropped_so e len index slot a allowed f))))))
 
-  birth_settles : (outcome_of e (born_of e index slot)).outcome ≡ Born → Settled e index slot (born_of e index slot)
+  birth_settles : (outcome_of e (born_of e index slot)).outcome ≡ Ok Born → Settled e index slot (born_of e index slot)
   unfolding act pick newborn_for newborn_of
   birth_settles b =
       by-case (eqb e.tally.attempts 64) (λ a. never (sym (dropped-outcome e (born_of e index slot) (worn_out a)) ∙ b))
@@ -86,7 +88,7 @@ module _ (e : Engine) (len : Places e) (slot index : ℕ) (s : ltb slot 256 ≡ 
       record { at = free_place e.particles; inside = l; free = free-at e len f; stands = there; held = ap (λ p. p.active) there })
       (λ f. never (sym (dropped-outcome e (born_of e index slot) (sym (ap (λ (x : Engine). x.tally.dropped) (dropped_so e len index slot a allowed f)))) ∙ b)))
     where
-      never : Dropped ≡ Born → Settled e index slot (born_of e index slot)
+      never : ◌≡◌ {A = Fired} (Ok Dropped) (Ok Born) → Settled e index slot (born_of e index slot)
       never q = absurd (let z : ◌≡◌ {A = ℕ} 0 1 = cc in omega arith)
 
 -- ---- the calls
@@ -102,14 +104,14 @@ module _ (e : Engine) (len : Places e) (slot index : ℕ) where
   unfolding acts_of trigger_acts perform act applied pick
   fired_engine s p = rw (s, p) at (calls_are_acts e (reserved slot index))
 
-  pub reserved_born : (triggered_by e slot index).outcome ≡ Born → Settled e (bit_xor index (2 ^ 63)) slot (triggered_by e slot index).engine
+  pub reserved_born : (triggered_by e slot index).outcome ≡ Ok Born → Settled e (bit_xor index (2 ^ 63)) slot (triggered_by e slot index).engine
   unfolding triggered_by pick
   reserved_born b =
       by-case (ltb slot 256)
       (λ s.
       by-case (is_permitted e slot) (λ p. subst (Settled e (bit_xor index (2 ^ 63)) slot) (fired_engine s p) (birth_settles e len slot (bit_xor index (2 ^ 63)) s (rw (s, p) at b)))
-      (λ p. absurd (let q : NotEligible ≡ Born = rw (s, p) at b in let z : ◌≡◌ {A = ℕ} 0 1 = cc in omega arith)))
-      (λ s. absurd (let q : Refused Slot ≡ Born = rw s at b in let z : ◌≡◌ {A = ℕ} 0 1 = cc in omega arith))
+      (λ p. absurd (let q : ◌≡◌ {A = Fired} (Ok NotEligible) (Ok Born) = rw (s, p) at b in let z : ◌≡◌ {A = ℕ} 0 1 = cc in omega arith)))
+      (λ s. absurd (let q : (Err Slot) ≡ (Ok Born) = rw s at b in let z : ◌≡◌ {A = ℕ} 0 1 = cc in omega arith))
 
 -- a trigger with an index of its own: reserving it moves nothing that an answer reads
 module _ (e : Engine) (len : Places e) (slot : ℕ) where
@@ -117,7 +119,7 @@ module _ (e : Engine) (len : Places e) (slot : ℕ) where
   unfolding triggered_of reserved_of is_permitted
   trigger_answers = reserved_answers (reserved_of e).engine len slot e.next.immediate_index
 
-  pub trigger_born : (triggered_of e slot).outcome ≡ Born → Settled e (bit_xor e.next.immediate_index (2 ^ 63)) slot (triggered_of e slot).engine
+  pub trigger_born : (triggered_of e slot).outcome ≡ Ok Born → Settled e (bit_xor e.next.immediate_index (2 ^ 63)) slot (triggered_of e slot).engine
   unfolding triggered_of reserved_of newborn_for voice_for chosen_for
   trigger_born b =
       let got = reserved_born (reserved_of e).engine len slot e.next.immediate_index b in

@@ -1,6 +1,6 @@
 -- DEMAND 1, as it is promised: for each call the tests of the scope, or of its order, one after the other, each with the number that it gives, and what a refusal leaves.
 -- Its terms are those of Tests.antt, of Triggers.antt (what a trigger answers besides) and of Stops.antt (how a script stops).
-use Rattle.std.specs.Prelude.{ℕ, ◌+◌, ◌-◌, ◌*◌, ◌/◌, ◌^◌, ◌≡◌, ◌↔◌, Bool, true, not, ◌&&◌, ◌||◌, List, [], ◌∷◌, eqb, ltb, leb, length, get_or, drop, Float}
+use Rattle.std.specs.Prelude.{ℕ, ◌+◌, ◌-◌, ◌*◌, ◌/◌, ◌^◌, ◌≡◌, ◌↔◌, Bool, true, not, ◌&&◌, ◌||◌, List, [], ◌∷◌, eqb, ltb, leb, length, get_or, drop, Float, Ok, Err}
 use Rattle.std.specs.Int.Bits.{bit_xor}
 use Rattle.std.specs.Float.Ieee.{is_nan}
 use Rattle.sequences.specs.All.{all}
@@ -33,12 +33,11 @@ use Rattle.big_endian.specs.Numbers.{be16}
 use Rattle.script.specs.Table.{kind_of, length_of, lawful}
 use Rattle.script.specs.Field.{misplaced, unknown, read_of}
 use Rattle.script.specs.declared.fields.Field.{Field}
-use Rattle.script.specs.declared.Read.TheVariants as R
 use Rattle.script_steps.specs.declared.Run.{Run}
 use Rattle.script_steps.specs.Steps.{step_of}
 use Rattle.text.specs.Put.{buffer_of}
 use Rattle.script_writer.specs.Encoded.{encoded}
-use Rattle.script_writer.specs.Written.{written_of}
+use Rattle.script_writer.specs.Written.{written_of, count_of}
 use Rattle.listing.specs.Listed.{room_for, listed_of, left_in}
 use Rattle.listing.specs.declared.lines.Line.TheVariants as L
 use Rattle.listing.specs.Turns.{turn_of, turns_of}
@@ -69,9 +68,9 @@ pub record Demand1 : Type 0 where
   pub reserved_leaves : (e : Engine) (slot index : ℕ) → bad_slot slot ≡ true → (triggered_by e slot index).engine ≡ e
   -- every trigger's answer, by the first test that holds; where it is born, its particle stands in the lowest place that was free
   pub trigger_answers : (e : Engine) (slot : ℕ) → Places e → (triggered_of e slot).outcome ≡ answered e slot
-  pub trigger_born : (e : Engine) (slot : ℕ) → Places e → (triggered_of e slot).outcome ≡ Born → Settled e (bit_xor e.next.immediate_index (2 ^ 63)) slot (triggered_of e slot).engine
+  pub trigger_born : (e : Engine) (slot : ℕ) → Places e → (triggered_of e slot).outcome ≡ Ok Born → Settled e (bit_xor e.next.immediate_index (2 ^ 63)) slot (triggered_of e slot).engine
   pub reserved_answers : (e : Engine) (slot index : ℕ) → Places e → (triggered_by e slot index).outcome ≡ answered e slot
-  pub reserved_born : (e : Engine) (slot index : ℕ) → Places e → (triggered_by e slot index).outcome ≡ Born → Settled e (bit_xor index (2 ^ 63)) slot (triggered_by e slot index).engine
+  pub reserved_born : (e : Engine) (slot index : ℕ) → Places e → (triggered_by e slot index).outcome ≡ Ok Born → Settled e (bit_xor index (2 ^ 63)) slot (triggered_by e slot index).engine
   pub frame : (e : Engine) (bin_hz seconds : Float) → answer_of (framed_of e bin_hz seconds).answer ≡ first_of ((bad_seconds seconds, 7) ∷ [])
   pub frame_leaves : (e : Engine) (bin_hz seconds : Float) → bad_seconds seconds ≡ true
       → ((framed_of e bin_hz seconds).engine ≡ e) × ((framed_of e bin_hz seconds).frame ≡ empty_frame)
@@ -132,7 +131,7 @@ pub record Demand1 : Type 0 where
       ∷ (not (lawful (kind_of (get_or s 0 0)) (drop 3 s)), 10)
       ∷ [])
   -- and the place that it is told with, in a script that has it at `at`: that of its tag, or the end of the script where the header is cut
-  pub field_place : (before : Run) (n at : ℕ) (s : List ℕ) (r : Refusal) → read_of (drop at s) (eqb n 1) ≡ R.Bad r
+  pub field_place : (before : Run) (n at : ℕ) (s : List ℕ) (r : Refusal) → read_of (drop at s) (eqb n 1) ≡ Err r
       → (turn_of before n at s).line ≡ L.Bad n r (pick (eqb (number_of r) 14) (length s) at)
   -- the engine's answer to a field. `seek`, note input, `reset` and `reserve_trigger` hand back an engine, `elapsed_samples` and `active_count` a number, and no answer beside it: they can't refuse, and nor do their fields.
   pub step : (before : Run) (f : Field) → reply_number (step_of before f).reply ≡ first_of (tests_of before.engine f)
@@ -145,6 +144,6 @@ pub record Demand1 : Type 0 where
   pub list : (s o : List ℕ) → listed_number (listed_of (length o) s) ≡ first_of ((ltb (length o) (room_for (length s)), 13) ∷ [])
   pub list_leaves : (s o : List ℕ) → (listed_number (listed_of (length o) s) ≡ 0 → ⊥) → left_in o s ≡ o
   -- an event into a lent buffer that holds `at` bytes: 13 where the free bytes are fewer than it needs; the count so far and the bytes then stay
-  pub write : (f : Field) (o : List ℕ) (at : ℕ) → answer_of (written_of (length o) at (encoded f)).answer ≡ first_of ((ltb (length o - at) (length (encoded f)), 13) ∷ [])
-  pub write_leaves : (f : Field) (o : List ℕ) (at : ℕ) → (answer_of (written_of (length o) at (encoded f)).answer ≡ 0 → ⊥)
-      → ((written_of (length o) at (encoded f)).count ≡ at) × (buffer_of o at (encoded f) ≡ o)
+  pub write : (f : Field) (o : List ℕ) (at : ℕ) → answer_of (written_of (length o) at (encoded f)) ≡ first_of ((ltb (length o - at) (length (encoded f)), 13) ∷ [])
+  pub write_leaves : (f : Field) (o : List ℕ) (at : ℕ) → (answer_of (written_of (length o) at (encoded f)) ≡ 0 → ⊥)
+      → ((count_of at (written_of (length o) at (encoded f))) ≡ at) × (buffer_of o at (encoded f) ≡ o)

@@ -1,5 +1,5 @@
 -- ORDER 5, as it is promised: what the table holds, which entry a bin has, and that what was written is read back.
-use Rattle.std.specs.Prelude.{ℕ, ◌+◌, ◌≤◌, ◌<◌, ◌≡◌, true, false, List, ◌++◌, length, get_or, take, drop, Float}
+use Rattle.std.specs.Prelude.{ℕ, ◌+◌, ◌≤◌, ◌<◌, ◌≡◌, true, false, List, ◌++◌, length, get_or, take, drop, Float, Some, Ok}
 use Rattle.std.specs.Float.Ieee.{is_nan}
 use Rattle.sequences.specs.Every.{Every}
 use Rattle.windows.specs.declared.Frame.{Frame}
@@ -8,16 +8,13 @@ use Rattle.mask_records.specs.Decibels.{entries, entry_of, is_entry}
 use Rattle.mask_records.specs.Rule.{Entry, Tenth}
 use Rattle.mask_records.specs.Tenths.{held, tenths_of}
 use Rattle.script_writer_laws.specs.Events.{Byte}
-use Rattle.mask_records.specs.declared.Written.TheVariants.{Upto}
-use Rattle.mask_records.specs.declared.Read.TheVariants.{Found}
 use Rattle.mask_records.specs.Bytes.{record_of, file_of}
 use Rattle.mask_records.specs.Entries.{attenuation_at}
 use Rattle.mask_records.specs.Placed.{record_size}
 use Rattle.mask_records.specs.Written.{entries_of, record_written}
-use Rattle.mask_records.specs.Found.{record_read}
+use Rattle.mask_records.specs.Found.{record_read, found}
 use Rattle.mask_laws.specs.Files.{Record, WholeRecord, ReadsAs}
 use Rattle.text.specs.Put.{splice}
-use Rattle.mask_files.specs.declared.Filed.TheVariants as Files
 use Rattle.mask_files.specs.Masks.{records_of, masks_of}
 
 pub record MaskFiles : Type 0 where
@@ -40,14 +37,14 @@ pub record MaskFiles : Type 0 where
   pub in_the_table : (f : Frame) (depth : Float) (logs : List Float) (bin : ℕ) → bin < length logs → is_entry (get_or (entries_of f depth logs) bin 0) ≡ true
   pub ones : (f : Frame) (depth : Float) (logs : List Float) → quiet_of depth f.activity ≡ true → (bin : ℕ) → bin < length logs → get_or (entries_of f depth logs) bin 0 ≡ 32768
   -- a frame's record that was written is read back, sample, count and entries, from the place where it begins; what stands behind it does not matter
-  pub read_back : (sample : ℕ) (f : Frame) (depth : Float) (logs scratch : List Float) (out : List ℕ) (at p : ℕ) → (record_written sample f depth logs scratch out at).0 ≡ Upto p
+  pub read_back : (sample : ℕ) (f : Frame) (depth : Float) (logs scratch : List Float) (out : List ℕ) (at p : ℕ) → (record_written sample f depth logs scratch out at).0 ≡ Ok p
       → (lent : List ℕ) → length logs ≤ length lent
-      → record_read (drop at (record_written sample f depth logs scratch out at).2) lent ≡ (Found sample (length logs) (record_size (length logs)), entries_of f depth logs ++ drop (length logs) lent)
+      → record_read (drop at (record_written sample f depth logs scratch out at).2) lent ≡ (Ok (Some (found sample (length logs) (record_size (length logs)))), entries_of f depth logs ++ drop (length logs) lent)
   -- a file of records is read back, record after record, to its end
   pub file_back : (rs : List Record) → Every WholeRecord rs → ReadsAs (file_of rs) rs
   -- a record that was read, and is written again entry by entry, has the bytes that were read
-  pub written_again : (s : List ℕ) → Every Byte s → (lent : List ℕ) (sample n k : ℕ) → (record_read s lent).0 ≡ Found sample n k → record_of sample (take n (record_read s lent).1) ≡ take k s
+  pub written_again : (s : List ℕ) → Every Byte s → (lent : List ℕ) (sample n k : ℕ) → (record_read s lent).0 ≡ Ok (Some (found sample n k)) → record_of sample (take n (record_read s lent).1) ≡ take k s
   -- the mask file of a script: where the call takes it, the records of its accepted frames, each by its sample and its entries, stand in the buffer one behind the other, the rest of it stays, and the reader finds them
-  pub script_file : (script : List ℕ) (size : ℕ) (depth : Float) (out : List ℕ) (at p : ℕ) → (masks_of script size depth out at).0 ≡ Files.Upto p
+  pub script_file : (script : List ℕ) (size : ℕ) (depth : Float) (out : List ℕ) (at p : ℕ) → (masks_of script size depth out at).0 ≡ Ok p
       → let rs = records_of script size depth in
       (p ≡ at + length (file_of rs)) × ((masks_of script size depth out at).1 ≡ splice out at (file_of rs)) × ReadsAs (file_of rs) rs

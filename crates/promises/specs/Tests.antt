@@ -1,5 +1,5 @@
 -- The terms of demand 1: tests with their numbers, and the number of each kind of answer. Definitions only.
-use Rattle.std.specs.Prelude.{ℕ, ◌+◌, ◌*◌, ◌^◌, ◌≡◌, Bool, true, false, not, ◌&&◌, ◌||◌, List, [], ◌∷◌, ◌++◌, eqb, ltb, leb, length, get_or, Float}
+use Rattle.std.specs.Prelude.{ℕ, ◌+◌, ◌*◌, ◌^◌, ◌≡◌, Bool, true, false, not, ◌&&◌, ◌||◌, List, [], ◌∷◌, ◌++◌, eqb, ltb, leb, length, get_or, Float, Some, None, Ok, Err}
 use Rattle.std.specs.Float.Ieee.{le}
 use Rattle.std.specs.Float.Ieee.Scale.{finite}
 use Rattle.sequences.specs.All.{all}
@@ -9,19 +9,14 @@ use Rattle.refusals.specs.Numbers.{number_of, answer_of}
 use Rattle.state.specs.declared.Done.{Done}
 use Rattle.state.specs.declared.Engine.{Engine}
 use Rattle.mask_records.specs.Decibels.{is_entry}
-use Rattle.mask_records.specs.declared.Written.{Written}
-use Rattle.mask_records.specs.declared.Written.TheVariants as W
-use Rattle.mask_records.specs.declared.Read as reader
-use Rattle.mask_records.specs.declared.Read.TheVariants as M
+use Rattle.mask_records.specs.Placed.{Written}
+use Rattle.mask_records.specs.Found as reader
 use Rattle.big_endian.specs.Numbers.{be16}
 use Rattle.script.specs.declared.fields.Field.{Field}
 use Rattle.script.specs.declared.fields.Field.TheVariants as F
-use Rattle.script.specs.declared.Read.{Read}
-use Rattle.script.specs.declared.Read.TheVariants as R
-use Rattle.script_steps.specs.declared.Reply.{Reply}
-use Rattle.script_steps.specs.declared.Reply.TheVariants as P
-use Rattle.listing.specs.declared.Listed.{Listed}
-use Rattle.listing.specs.declared.Listed.TheVariants as L
+use Rattle.script.specs.Field.{Read}
+use Rattle.script_steps.specs.Replies.{Reply}
+use Rattle.listing.specs.Listed.{Listed}
 
 -- a test, and the number that is given where it is the first to hold
 abbrev pub Row : Type 0
@@ -85,27 +80,19 @@ tests_of e (F.ReservedTrigger s i) = (bad_slot s, 2) ∷ []
 
 -- ---- the numbers of answers
 abbrev pub reply_number : Reply → ℕ
-reply_number P.Quiet = 0
-reply_number (P.Refused r) = number_of r
-reply_number (P.Framed v) = 0
+reply_number r = answer_of r
 
 abbrev pub read_number : Read → ℕ
-read_number (R.Field f k) = 0
-read_number (R.Bad r) = number_of r
-read_number R.End = 0
+read_number r = answer_of r
 
 abbrev pub listed_number : Listed → ℕ
-listed_number (L.Count n) = 0
-listed_number (L.Refused r) = number_of r
+listed_number r = answer_of r
 
 abbrev pub record_number : Written → ℕ
-record_number (W.Upto p) = 0
-record_number (W.Refused r) = number_of r
+record_number r = answer_of r
 
 abbrev pub found_number : reader.Read → ℕ
-found_number M.End = 0
-found_number (M.Found v n k) = 0
-found_number (M.Refused r) = number_of r
+found_number r = answer_of r
 
 -- a refusal leaves the engine as it was
 abbrev pub Kept : Engine → Done → Type 0

@@ -43,6 +43,7 @@ number_of Record = 19
 abbrev pub Answer : Type 0
 Answer = Result Unit Refusal
 
-abbrev pub answer_of : Answer → ℕ
+-- 0 unless it refuses
+abbrev pub answer_of : {A : Type 0} → Result A Refusal → ℕ
 answer_of (Ok _) = 0
 answer_of (Err r) = number_of r

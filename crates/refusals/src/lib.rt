@@ -51,12 +51,12 @@ impl From<Refusal> for u64 {
     }
 }
 
-// 0 for what is taken.
-pub fn answer_number(answer: Result<(), Refusal>) -> u64
+// 0 unless it refuses.
+pub fn answer_number<T: Drop>(answer: Result<T, Refusal>) -> u64
     ensures { result ≡ answer_of answer }
 {
     match answer {
-        Ok(()) => 0,
+        Ok(_) => 0,
         Err(refusal) => u64::from(refusal),
     }
 }

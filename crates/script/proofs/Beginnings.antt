@@ -1,4 +1,5 @@
 -- The beginning of a script and the whole of it: a field that is read in the one is read in the other, where its bytes reach; bytes that are wrong stay wrong, and bytes that are missing are 14 or 16.
+use Rattle.std.specs.Prelude.{Some, None, Ok, Err}
 use Prim.Native.Nat.{ℕ, ◌+◌, ◌-◌, ◌≤◌, ◌<◌}
 use mathlib.Core.Path.{◌≡◌, refl, sym, ap, ◌∙◌, subst}
 use mathlib.Core.Bool.{Bool, true, false}
@@ -17,7 +18,6 @@ use Rattle.script.specs.Table.{kind_of, length_of, lawful, field_of}
 use Rattle.script.specs.declared.tags.Kind.{Kind}
 use Rattle.script.specs.declared.tags.Kind.TheVariants as K
 use Rattle.script.specs.declared.fields.Field.{Field}
-use Rattle.script.specs.declared.Read.TheVariants as R
 use Rattle.script.specs.Field.{body_of, misplaced, unknown, read_of}
 use Rattle.script.specs.Reading.{Reading, Placed, field_at, stopped, in_front, ended, bad}
 use Rattle.script.proofs.Whole.{Whole, whole, taken-whole, end_is-empty}
@@ -110,7 +110,7 @@ module _ (s rest : List ℕ) (first : Bool) where
   byte : (i : ℕ) → i < length s → get_or (s ++ rest) i 0 ≡ get_or s i 0
   byte i h = get_or-append s rest 0 i h
 
-  pub field_longer : {f : Field} {k : ℕ} → read_of s first ≡ R.Field f k → read_of (s ++ rest) first ≡ R.Field f k
+  pub field_longer : {f : Field} {k : ℕ} → read_of s first ≡ Ok (Some (f, k)) → read_of (s ++ rest) first ≡ Ok (Some (f, k))
   field_longer {f} {k} e =
       let w = whole s first e in
       let fits = w.fits in
@@ -118,11 +118,11 @@ module _ (s rest : List ℕ) (first : Bool) where
       let takes = w.takes in
       taken-whole (whole_same s (s ++ rest) first (λ i h. sym (byte i (omega arith))) (omega (arith, all)) w)
 
-  pub field_shorter : {f : Field} {k : ℕ} → read_of (s ++ rest) first ≡ R.Field f k → k ≤ length s → read_of s first ≡ R.Field f k
+  pub field_shorter : {f : Field} {k : ℕ} → read_of (s ++ rest) first ≡ Ok (Some (f, k)) → k ≤ length s → read_of s first ≡ Ok (Some (f, k))
   field_shorter e h = taken-whole (whole_same (s ++ rest) s first (λ i l. byte i (omega arith)) h (whole (s ++ rest) first e))
 
   -- ---- bytes that are missing
-  pub field_cut : {f : Field} {k : ℕ} → read_of (s ++ rest) first ≡ R.Field f k → 0 < length s → length s < k → (read_of s first ≡ R.Bad HeaderCut) ⊎ (read_of s first ≡ R.Bad ValueCut)
+  pub field_cut : {f : Field} {k : ℕ} → read_of (s ++ rest) first ≡ Ok (Some (f, k)) → 0 < length s → length s < k → (read_of s first ≡ Err HeaderCut) ⊎ (read_of s first ≡ Err ValueCut)
   unfolding read_of body_of
   field_cut {f} {k} e some h =
       by-case (ltb (length s) 3)
@@ -139,13 +139,13 @@ module _ (s rest : List ℕ) (first : Bool) where
       inr (rw (ne_eqb (length s) 0 (λ z. omega arith), y, in_place, known, eq-eqb _ _ said, lt-leb (length_of (kind_of (get_or s 0 0))) (length s - 3) (omega arith))))
 
   -- ---- bytes that are wrong
-  pub bad_longer : {c : Refusal} → read_of s first ≡ R.Bad c → 0 < length s → (c ≡ HeaderCut → ⊥) → (c ≡ ValueCut → ⊥) → read_of (s ++ rest) first ≡ R.Bad c
+  pub bad_longer : {c : Refusal} → read_of s first ≡ Err c → 0 < length s → (c ≡ HeaderCut → ⊥) → (c ≡ ValueCut → ⊥) → read_of (s ++ rest) first ≡ Err c
   unfolding read_of body_of
   bad_longer {c} e some not-14 not_16 =
       let some-here = ne_eqb (length s) 0 (λ z. omega arith) in
       let some-all = ne_eqb (length (s ++ rest)) 0 (λ z. omega (arith, all)) in
       by-case (ltb (length s) 3)
-      (λ y. let w : R.Bad HeaderCut ≡ R.Bad c = rw (some-here, y) at e in absurd (not-14 cc))
+      (λ y. let w : (Err HeaderCut) ≡ (Err c) = rw (some-here, y) at e in absurd (not-14 cc))
       (λ y.
       let long = ltb-false (length s) 3 y in
       let long-all = le-ltb (length (s ++ rest)) 3 (omega (arith, all)) in
@@ -165,11 +165,11 @@ module _ (s rest : List ℕ) (first : Bool) where
       let good = same-lawful (drop 3 (s ++ rest)) (drop 3 s) (length_of k) inner k (omega arith) in
       let is = same-field (drop 3 (s ++ rest)) (drop 3 s) (length_of k) inner k (omega arith) in
       rw (some-all, long-all, tag, p, u, said, l, fits_all, good, is) (rw (some-here, y, p, u, l, h) at e))
-      (λ h. let w : R.Bad ValueCut ≡ R.Bad c = rw (some-here, y, p, u, l, h) at e in absurd (not_16 cc)))
+      (λ h. let w : (Err ValueCut) ≡ (Err c) = rw (some-here, y, p, u, l, h) at e in absurd (not_16 cc)))
       (λ l. rw (some-all, long-all, tag, p, u, said, l) (rw (some-here, y, p, u, l) at e)))))
 
 -- ---- where no byte is left
-nothing_left : (n : ℕ) (s : List ℕ) → length s ≡ 0 → (eqb n 1 ≡ true → 0 < length s) → read_of s (eqb n 1) ≡ R.End
+nothing_left : (n : ℕ) (s : List ℕ) → length s ≡ 0 → (eqb n 1 ≡ true → 0 < length s) → read_of s (eqb n 1) ≡ Ok None
 unfolding read_of
 nothing_left n s h some = by-case (eqb n 1) (λ y. let l = some y in absurd (omega arith)) (λ y. rw (eq-eqb _ _ h, y))
 
@@ -183,7 +183,7 @@ wrong_longer {n} {at} {s} (field {k = k} e lo hi d) pos some c v not-14 not_16 r
 wrong_longer {n} {at} {s} (wrong {c = b} e) pos some c v not-14 not_16 rest =
     let same : b ≡ c = cc in
     by-case (eqb (length s) 0)
-    (λ y. let w : R.End ≡ R.Bad b = sym (nothing_left n s (eqb-true _ _ y) some) ∙ e in absurd (let q : ◌≡◌ {A = ℕ} 0 1 = cc in omega arith))
+    (λ y. let w : (Ok None) ≡ (Err b) = sym (nothing_left n s (eqb-true _ _ y) some) ∙ e in absurd (let q : ◌≡◌ {A = ℕ} 0 1 = cc in omega arith))
     (λ y. let none : length s ≡ 0 → ⊥ = eqb-false (length s) 0 y in wrong (bad_longer s rest (eqb n 1) e (omega arith) (λ q. not-14 (sym same ∙ q)) (λ q. not_16 (sym same ∙ q))))
 wrong_longer (end e) pos some c v not-14 not_16 rest = bad_not_ended (sym v)
 
@@ -214,7 +214,7 @@ beginning {n} {at} (field {f = f} {k = k} {r = q} e lo hi d) s rest is v pos som
     (λ z. record { reading = stopped at ended; reads = end (nothing_left n s (eqb-true _ _ z) some); kept = field_at at k f ∷ q.fields; fields = refl; ends = inl refl })
     (λ z. let l : length s ≡ 0 → ⊥ = eqb-false (length s) 0 z in cut_here (field_cut s rest (eqb n 1) (rw is at e) (omega arith) short)))
   where
-    cut_here : (read_of s (eqb n 1) ≡ R.Bad HeaderCut) ⊎ (read_of s (eqb n 1) ≡ R.Bad ValueCut) → Begins n at s (in_front (field_at at k f) q)
+    cut_here : (read_of s (eqb n 1) ≡ Err HeaderCut) ⊎ (read_of s (eqb n 1) ≡ Err ValueCut) → Begins n at s (in_front (field_at at k f) q)
     cut_here (inl h) = record { reading = stopped at (bad HeaderCut); reads = wrong h; kept = field_at at k f ∷ q.fields; fields = refl; ends = inr (inl refl) }
     cut_here (inr h) = record { reading = stopped at (bad ValueCut); reads = wrong h; kept = field_at at k f ∷ q.fields; fields = refl; ends = inr (inr refl) }
 beginning (wrong e) s rest is v pos some = bad_not_ended v

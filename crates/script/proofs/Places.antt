@@ -1,4 +1,5 @@
 -- Where the fields of a script stand: each takes three bytes at least, they lie one behind the other, and the rest of the script begins where they stop.
+use Rattle.std.specs.Prelude.{Err}
 use Prim.Native.Nat.{ℕ, ◌+◌, ◌*◌, ◌≤◌}
 use mathlib.Core.Path.{◌≡◌, refl, sym, ap, ◌∙◌}
 use mathlib.Core.List.{List, [], ◌∷◌, ◌++◌, append_assoc}
@@ -7,7 +8,6 @@ use lib.ListN.{length, take, drop, length-drop, take-append-drop}
 use lib.Seq.{drop-drop}
 use lib.Dec.{eqb}
 use Rattle.refusals.specs.declared.Refusal.{Refusal}
-use Rattle.script.specs.declared.Read.TheVariants as R
 use Rattle.script.specs.Field.{read_of}
 use Rattle.script.specs.Reading.{Reading, Placed, sizes, ended, bad}
 use Rattle.script.proofs.Steps.{Reads, field, wrong, end}
@@ -56,12 +56,12 @@ own_and_rest script (end e) = refl
 
 -- where a script goes bad, the reader says so of the rest
 pub stops_bad : {n at : ℕ} {s : List ℕ} {r : Reading} {c : Refusal} → Reads n at s r → r.verdict ≡ bad c
-    → read_of (drop (sizes r.fields) s) (eqb (n + length r.fields) 1) ≡ R.Bad c
+    → read_of (drop (sizes r.fields) s) (eqb (n + length r.fields) 1) ≡ Err c
 stops_bad {n} {at} {s} {r} {c} (field {k = k} {r = q} e lo hi d) v =
     let m : n + length r.fields ≡ n + 1 + length q.fields = omega arith in
     rw (m, ← drop-drop (sizes q.fields) k s) (stops_bad d v)
 stops_bad {n} {at} {s} {r} {c} (wrong {c = b} e) v =
     let m : n + 0 ≡ n = omega arith in
     let same : b ≡ c = cc in
-    rw m (e ∙ ap R.Bad same)
+    rw m (e ∙ ap Err same)
 stops_bad (end e) v = bad_not_ended (sym v)

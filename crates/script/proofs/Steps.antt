@@ -1,4 +1,5 @@
 -- A script is read step by step: `Reads` is the reading as a derivation, on which laws go by induction, and `onward` is the one reading that has one.
+use Rattle.std.specs.Prelude.{Some, None, Ok, Err}
 use Prim.Native.Nat.{ℕ, zero, suc, ◌+◌, ◌≤◌, ◌<◌}
 use mathlib.Core.Path.{◌≡◌, refl, ap}
 use mathlib.Core.List.{List}
@@ -7,24 +8,22 @@ use lib.ListN.{length, drop, length-drop}
 use lib.Dec.{eqb}
 use Rattle.refusals.specs.declared.Refusal.{Refusal}
 use Rattle.script.specs.declared.fields.Field.{Field}
-use Rattle.script.specs.declared.Read.{Read}
-use Rattle.script.specs.declared.Read.TheVariants as R
-use Rattle.script.specs.Field.{read_of}
+use Rattle.script.specs.Field.{Read, read_of}
 use Rattle.script.proofs.Taken as T
 use Rattle.script.specs.Reading.{Reading, field_at, stopped, in_front, ended, bad, after_read, read_from, onward}
 
 pub data Reads : ℕ → ℕ → List ℕ → Reading → Type 0 where
-  field : {n at : ℕ} {s : List ℕ} {f : Field} {k : ℕ} {r : Reading} → read_of s (eqb n 1) ≡ R.Field f k → 3 ≤ k → k ≤ length s
+  field : {n at : ℕ} {s : List ℕ} {f : Field} {k : ℕ} {r : Reading} → read_of s (eqb n 1) ≡ Ok (Some (f, k)) → 3 ≤ k → k ≤ length s
       → Reads (n + 1) (at + k) (drop k s) r → Reads n at s (in_front (field_at at k f) r)
-  wrong : {n at : ℕ} {s : List ℕ} {c : Refusal} → read_of s (eqb n 1) ≡ R.Bad c → Reads n at s (stopped at (bad c))
-  end : {n at : ℕ} {s : List ℕ} → read_of s (eqb n 1) ≡ R.End → Reads n at s (stopped at ended)
+  wrong : {n at : ℕ} {s : List ℕ} {c : Refusal} → read_of s (eqb n 1) ≡ Err c → Reads n at s (stopped at (bad c))
+  end : {n at : ℕ} {s : List ℕ} → read_of s (eqb n 1) ≡ Ok None → Reads n at s (stopped at ended)
 
 -- ---- there is one
 one-step : (n at : ℕ) (s : List ℕ) (rest : ℕ → Reading) (r : Read) → read_of s (eqb n 1) ≡ r → T.Taken r (length s)
     → ((k : ℕ) → 3 ≤ k → k ≤ length s → Reads (n + 1) (at + k) (drop k s) (rest k)) → Reads n at s (after_read at r rest)
-one-step n at s rest (R.Field f k) e (T.field lo hi) h = field e lo hi (h k lo hi)
-one-step n at s rest (R.Bad c) e T.bad h = wrong e
-one-step n at s rest R.End e T.end h = end e
+one-step n at s rest (Ok (Some (f, k))) e (T.field lo hi) h = field e lo hi (h k lo hi)
+one-step n at s rest (Err c) e T.bad h = wrong e
+one-step n at s rest (Ok None) e T.end h = end e
 
 from-reads : (most n at : ℕ) (s : List ℕ) → length s < most → Reads n at s (read_from most n at s)
 unfolding read_from

@@ -1,4 +1,5 @@
 -- A field that was read took at least three bytes, and no more than there are.
+use Rattle.std.specs.Prelude.{Some, None, Ok, Err}
 use Prim.Native.Nat.{ℕ, ◌+◌, ◌-◌, ◌≤◌}
 use mathlib.Core.Bool.{Bool}
 use mathlib.Core.List.{List}
@@ -9,17 +10,15 @@ use borrow.Author.Tests.{ltb-false, leb-true}
 use Rattle.sequences.specs.Pick.{by-case}
 use Rattle.big_endian.specs.Numbers.{be16}
 use Rattle.script.specs.Table.{kind_of, lawful, length_of}
-use Rattle.script.specs.Field.{body_of, misplaced, unknown, read_of}
+use Rattle.script.specs.Field.{body_of, misplaced, unknown, read_of, Read}
 use Rattle.refusals.specs.declared.Refusal.{Refusal}
 use Rattle.script.specs.declared.tags.Kind.{Kind}
 use Rattle.script.specs.declared.fields.Field.{Field}
-use Rattle.script.specs.declared.Read.{Read}
-use Rattle.script.specs.declared.Read.TheVariants as R
 
 pub data Taken : Read → ℕ → Type 0 where
-  field : {f : Field} {k m : ℕ} → 3 ≤ k → k ≤ m → Taken (R.Field f k) m
-  bad : {c : Refusal} {m : ℕ} → Taken (R.Bad c) m
-  end : {m : ℕ} → Taken R.End m
+  field : {f : Field} {k m : ℕ} → 3 ≤ k → k ≤ m → Taken (Ok (Some (f, k))) m
+  bad : {c : Refusal} {m : ℕ} → Taken (Err c) m
+  end : {m : ℕ} → Taken (Ok None) m
 
 body : (k : Kind) (s : List ℕ) → 3 ≤ length s → Taken (body_of k s) (length s)
 unfolding body_of

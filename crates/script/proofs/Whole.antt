@@ -1,6 +1,7 @@
 -- When the reader takes a field: all of its tests at once, and back. And it finds the end of a script only where no byte is left.
+use Rattle.std.specs.Prelude.{Some, None, Ok, Err}
 use Prim.Native.Nat.{ℕ, ◌+◌, ◌-◌, ◌≤◌}
-use mathlib.Core.Path.{◌≡◌, subst}
+use mathlib.Core.Path.{◌≡◌, ap, subst}
 use mathlib.Core.Bool.{Bool, true, false}
 use mathlib.Core.List.{List, []}
 use native.Mathlib.Omega.{arith}
@@ -13,9 +14,7 @@ use Rattle.big_endian.specs.Numbers.{be16}
 use Rattle.script.specs.Table.{kind_of, length_of, lawful, field_of}
 use Rattle.script.specs.declared.tags.Kind.{Kind}
 use Rattle.script.specs.declared.fields.Field.{Field}
-use Rattle.script.specs.Field.{body_of, misplaced, unknown, read_of}
-use Rattle.script.specs.declared.Read.{Read}
-use Rattle.script.specs.declared.Read.TheVariants as R
+use Rattle.script.specs.Field.{body_of, misplaced, unknown, read_of, Read}
 
 -- the value of a field begins behind its tag and its length
 abbrev pub value_of : List ℕ → List ℕ
@@ -34,13 +33,19 @@ pub record Whole (s : List ℕ) (first : Bool) (f : Field) (k : ℕ) : Type 0 wh
   pub is : field_of (kind_at s) (value_of s) ≡ f
   pub takes : 3 + length_of (kind_at s) ≡ k
 
-bad_no_field : {X : Type 0} {c : Refusal} {f : Field} {k : ℕ} → R.Bad c ≡ R.Field f k → X
+bad_no_field : {X : Type 0} {c : Refusal} {f : Field} {k : ℕ} → ◌≡◌ {A = Read} (Err c) (Ok (Some (f, k))) → X
 bad_no_field e = let z : ◌≡◌ {A = ℕ} 0 1 = cc in absurd (omega arith)
 
-end_no_field : {X : Type 0} {f : Field} {k : ℕ} → R.End ≡ R.Field f k → X
+end_no_field : {X : Type 0} {f : Field} {k : ℕ} → ◌≡◌ {A = Read} (Ok None) (Ok (Some (f, k))) → X
 end_no_field e = let z : ◌≡◌ {A = ℕ} 0 1 = cc in absurd (omega arith)
 
-pub whole : (s : List ℕ) (first : Bool) {f : Field} {k : ℕ} → read_of s first ≡ R.Field f k → Whole s first f k
+-- the field and its size, where there is one
+abbrev got : Field × ℕ → Read → Field × ℕ
+got d (Ok (Some p)) = p
+got d (Ok None) = d
+got d (Err r) = d
+
+pub whole : (s : List ℕ) (first : Bool) {f : Field} {k : ℕ} → read_of s first ≡ Ok (Some (f, k)) → Whole s first f k
 unfolding read_of body_of
 whole s first {f} {k} e =
     by-case (eqb (length s) 0)
@@ -55,7 +60,7 @@ whole s first {f} {k} e =
     (λ l. by-case (leb (length_of (kind_at s)) (length s - 3))
     (λ c. by-case (lawful (kind_at s) (value_of s))
     (λ g.
-    let q : R.Field (field_of (kind_at s) (value_of s)) (3 + length_of (kind_at s)) ≡ R.Field f k = rw (y, z, p, t, l, c, g) at e in
+    let q : ◌≡◌ {A = Field × ℕ} (field_of (kind_at s) (value_of s), 3 + length_of (kind_at s)) (f, k) = ap (got (f, k)) (rw (y, z, p, t, l, c, g) at e) in
     record {
       long = ltb-false (length s) 3 z;
       in_place = p;
@@ -63,14 +68,14 @@ whole s first {f} {k} e =
       said = eqb-true _ _ l;
       fits = leb-true _ _ c;
       good = g;
-      is = cc;
-      takes = cc;
+      is = ap (λ (p : Field × ℕ). p.0) q;
+      takes = ap (λ (p : Field × ℕ). p.1) q;
     })
     (λ g. bad_no_field (rw (y, z, p, t, l, c, g) at e)))
     (λ c. bad_no_field (rw (y, z, p, t, l, c) at e)))
     (λ l. bad_no_field (rw (y, z, p, t, l) at e))))))
 
-pub taken-whole : {s : List ℕ} {first : Bool} {f : Field} {k : ℕ} → Whole s first f k → read_of s first ≡ R.Field f k
+pub taken-whole : {s : List ℕ} {first : Bool} {f : Field} {k : ℕ} → Whole s first f k → read_of s first ≡ Ok (Some (f, k))
 unfolding read_of body_of
 taken-whole {s} w =
     let l = w.long in
@@ -78,9 +83,9 @@ taken-whole {s} w =
 
 -- ---- the end
 abbrev Goes : Read → Type 0
-Goes (R.Field f k) = Unit {0}
-Goes (R.Bad c) = Unit {0}
-Goes R.End = ⊥
+Goes (Ok (Some (f, k))) = Unit {0}
+Goes (Err c) = Unit {0}
+Goes (Ok None) = ⊥
 
 body_goes : (k : Kind) (s : List ℕ) → Goes (body_of k s)
 unfolding body_of
@@ -100,10 +105,10 @@ goes s first y =
     (λ p. rw (y, z, p) tt)
     (λ p. by-case (unknown (get_or s 0 0)) (λ t. rw (y, z, p, t) tt) (λ t. rw (y, z, p, t) (body_goes (kind_at s) s))))
 
-pub end_is-empty : (s : List ℕ) (first : Bool) → read_of s first ≡ R.End → length s ≡ 0
+pub end_is-empty : (s : List ℕ) (first : Bool) → read_of s first ≡ Ok None → length s ≡ 0
 end_is-empty s first e = by-case (eqb (length s) 0) (λ y. eqb-true _ _ y) (λ y. absurd (subst Goes e (goes s first y)))
 
 -- where no byte is left, a later field is the end
-pub end_of_all : (n : ℕ) → 2 ≤ n → read_of [] (eqb n 1) ≡ R.End
+pub end_of_all : (n : ℕ) → 2 ≤ n → read_of [] (eqb n 1) ≡ Ok None
 unfolding read_of
 end_of_all n h = rw (ne_eqb n 1 (λ e. omega arith))

@@ -1,11 +1,9 @@
 -- The fields of a script with their places, and the verdict that stopped the reader. Definitions only.
-use Rattle.std.specs.Prelude.{ℕ, zero, suc, ◌+◌, cond, List, [], ◌∷◌, length, drop, eqb, leb}
+use Rattle.std.specs.Prelude.{ℕ, zero, suc, ◌+◌, cond, List, [], ◌∷◌, length, drop, eqb, leb, Some, None, Ok, Err}
 use Rattle.refusals.specs.declared.Refusal.{Refusal}
 use Rattle.refusals.specs.declared.Refusal.TheVariants.{Script}
 use Rattle.script.specs.declared.fields.Field.{Field}
-use Rattle.script.specs.declared.Read.{Read}
-use Rattle.script.specs.declared.Read.TheVariants as R
-use Rattle.script.specs.Field.{read_of}
+use Rattle.script.specs.Field.{Read, read_of}
 
 -- a field, the place of its tag, and how many bytes it takes
 pub record Placed : Type 0 where
@@ -38,9 +36,9 @@ abbrev pub in_front : Placed → Reading → Reading
 in_front p r = record { fields = p ∷ r.fields; stop = r.stop; verdict = r.verdict }
 
 abbrev pub after_read : ℕ → Read → (ℕ → Reading) → Reading
-after_read at (R.Field f k) rest = in_front (field_at at k f) (rest k)
-after_read at (R.Bad c) rest = stopped at (bad c)
-after_read at R.End rest = stopped at ended
+after_read at (Ok (Some (f, k))) rest = in_front (field_at at k f) (rest k)
+after_read at (Err c) rest = stopped at (bad c)
+after_read at (Ok None) rest = stopped at ended
 
 -- at most so many fields, the first of them field n of its script, at a place
 unfoldable pub read_from : ℕ → ℕ → ℕ → List ℕ → Reading

@@ -3,12 +3,13 @@ ghost use Rattle.std.specs.Prelude.{◌≡◌, ◌≤◌, length};
 ghost use Rattle.script.specs.Field.{body_of};
 
 use crate::tags::Kind;
-use crate::{Read, tags};
+use crate::fields::Field;
+use crate::tags;
 use big_endian::be16_at;
 use refusals::Refusal;
 
 // The length, the value cut, the value.
-pub fn body_of(kind: Kind, s: &[u8]) -> Read
+pub fn body_of(kind: Kind, s: &[u8]) -> Result<Option<(Field, usize)>, Refusal>
     requires { 3 ≤ length s.now }
     ensures { result ≡ body_of kind s.now }
 {
@@ -19,15 +20,15 @@ pub fn body_of(kind: Kind, s: &[u8]) -> Read
     let wrong = said != n;
     let cut = s.len() - 3 < n;
     if wrong {
-        return Read::Bad(Refusal::WrongLength);
+        return Err(Refusal::WrongLength);
     }
     if cut {
-        return Read::Bad(Refusal::ValueCut);
+        return Err(Refusal::ValueCut);
     }
     if row.lawful {
         let field = row.field;
-        Read::Field(field, 3 + n)
+        Ok(Some((field, 3 + n)))
     } else {
-        Read::Bad(Refusal::Value)
+        Err(Refusal::Value)
     }
 }

@@ -16,14 +16,6 @@ pub use fields::Field;
 // Added by 01: a longer script is refused.
 pub const MAX_SCRIPT_BYTES: usize = 60000;
 
-#[derive(Clone, Copy)]
-pub enum Read {
-    // The field, and how many bytes it takes.
-    Field(Field, usize),
-    Bad(Refusal),
-    End,
-}
-
 // The first field is the rate, and no later one is.
 fn is_misplaced(tag: u8, first: bool) -> bool
     ensures { result ≡ misplaced tag first }
@@ -38,7 +30,7 @@ fn is_unknown(tag: u8) -> bool
 }
 
 // The field at the start of bytes: the header, then the body.
-fn read_header(script: &[u8], first: bool) -> Read
+fn read_header(script: &[u8], first: bool) -> Result<Option<(Field, usize)>, Refusal>
     requires { 0 < length script.now }
     ensures { result ≡ read_of script.now first }
 {
@@ -47,26 +39,27 @@ fn read_header(script: &[u8], first: bool) -> Read
     let misplaced = is_misplaced(tag, first);
     let unknown = is_unknown(tag);
     if cut {
-        return Read::Bad(Refusal::HeaderCut);
+        return Err(Refusal::HeaderCut);
     }
     if misplaced {
-        return Read::Bad(Refusal::Place);
+        return Err(Refusal::Place);
     }
     if unknown {
-        return Read::Bad(Refusal::Tag);
+        return Err(Refusal::Tag);
     }
     body::body_of(tags::kind_of(tag), script)
 }
 
-// The field at the start of `script`, which is a script's first one or a later one.
-pub fn read_field(script: &[u8], first: bool) -> Read
+// The field at the start of `script`, which is a script's first one or a later one, and how many bytes it
+// takes; none at the end.
+pub fn read_field(script: &[u8], first: bool) -> Result<Option<(Field, usize)>, Refusal>
     ensures { result ≡ read_of script.now first }
 {
     if script.len() == 0 {
         return if first {
-            Read::Bad(Refusal::Place)
+            Err(Refusal::Place)
         } else {
-            Read::End
+            Ok(None)
         };
     }
     read_header(script, first)

@@ -1,17 +1,13 @@
 -- What a call's answer comes to, apart from the run. Definitions only.
-use Rattle.refusals.specs.declared.Answer.{Answer}
-use Rattle.refusals.specs.declared.Answer.TheVariants as A
-use Rattle.engine_triggers.specs.declared.Outcome.{Outcome}
-use Rattle.engine_triggers.specs.declared.Outcome.TheVariants as O
-use Rattle.script_steps.specs.declared.Reply.{Reply}
-use Rattle.script_steps.specs.declared.Reply.TheVariants as R
+use Rattle.std.specs.Prelude.{Option, None, Result, Ok, Err}
+use Rattle.refusals.specs.declared.Refusal.{Refusal}
+use Rattle.script_steps.specs.declared.values.Values.{Values}
 
-abbrev pub reply_of : Answer → Reply
-reply_of A.Taken = R.Quiet
-reply_of (A.Refused r) = R.Refused r
+-- an accepted frame's values, nothing to print, or a refusal
+abbrev pub Reply : Type 0
+Reply = Result (Option Values) Refusal
 
-abbrev pub outcome_reply : Outcome → Reply
-outcome_reply O.Born = R.Quiet
-outcome_reply O.NotEligible = R.Quiet
-outcome_reply O.Dropped = R.Quiet
-outcome_reply (O.Refused r) = R.Refused r
+-- of what a call answers only a refusal is told
+abbrev pub reply_of : {A : Type 0} → Result A Refusal → Reply
+reply_of (Ok x) = Ok None
+reply_of (Err r) = Err r

@@ -1,9 +1,8 @@
 -- What one field does to the run: 01's table, one line a tag. Definitions only.
-use Rattle.std.specs.Prelude.{Bool, Float}
+use Rattle.std.specs.Prelude.{Bool, Float, Some, None, Ok, Err}
 use Rattle.floats.specs.Names.{f32}
 use Rattle.refusals.specs.declared.Refusal.{Refusal}
-use Rattle.refusals.specs.declared.Answer.{Answer}
-use Rattle.refusals.specs.declared.Answer.TheVariants as A
+use Rattle.refusals.specs.Numbers.{Answer}
 use Rattle.script.specs.declared.fields.Field.{Field}
 use Rattle.script.specs.declared.fields.Field.TheVariants as F
 use Rattle.sources.specs.declared.Source.{Source}
@@ -12,18 +11,16 @@ use Rattle.windows.specs.Opening.{empty_frame}
 use Rattle.state.specs.declared.Engine.{Engine}
 use Rattle.state.specs.declared.Done.{Done}
 use Rattle.engine_triggers.specs.declared.Triggered.{Triggered}
-use Rattle.engine_triggers.specs.declared.Outcome.{Outcome}
-use Rattle.engine_triggers.specs.declared.Outcome.TheVariants as O
+use Rattle.engine_triggers.specs.Triggers.{Fired, triggered_of, reserved_of, triggered_by}
+use Rattle.engine_triggers.specs.declared.Outcome.TheVariants.{Born, NotEligible, Dropped}
 use Rattle.engine.specs.New.{new_engine_of, reset_of}
 use Rattle.engine_changes.specs.Changes.{configured_of, notes_of, sought_of}
 use Rattle.engine_sources.specs.Slots.{set_source_of, retire_source_of, release_source_of}
 use Rattle.engine.specs.Advance.{advanced_of}
-use Rattle.engine_triggers.specs.Triggers.{triggered_of, reserved_of, triggered_by}
 use Rattle.script_steps.specs.Values.{values_of}
 use Rattle.frame.specs.declared.Framed.{Framed}
 use Rattle.frame.specs.Call.{framed_of as take_frame_of}
 use Rattle.script_steps.specs.declared.Run.{Run}
-use Rattle.script_steps.specs.declared.Reply.TheVariants as R
 use Rattle.script_steps.specs.declared.Stepped.{Stepped}
 
 -- before the first field, whose rate makes the engine anew
@@ -35,34 +32,34 @@ abbrev pub with_engine : Run → Engine → Run
 with_engine run e = record { engine = e; frame = run.frame }
 
 abbrev pub quiet_step : Run → Engine → Stepped
-quiet_step run e = record { run = with_engine run e; reply = R.Quiet }
+quiet_step run e = record { run = with_engine run e; reply = (Ok None) }
 
 abbrev pub refused_step : Run → Engine → Refusal → Stepped
-refused_step run e r = record { run = with_engine run e; reply = R.Refused r }
+refused_step run e r = record { run = with_engine run e; reply = (Err r) }
 
 abbrev pub answered_of : Run → Engine → Answer → Stepped
-answered_of run e A.Taken = quiet_step run e
-answered_of run e (A.Refused r) = refused_step run e r
+answered_of run e (Ok tt) = quiet_step run e
+answered_of run e (Err r) = refused_step run e r
 
 abbrev pub done_of : Run → Done → Stepped
 done_of run d = answered_of run d.engine d.answer
 
 -- born, not eligible and dropped print nothing
-abbrev pub outcome_step : Run → Engine → Outcome → Stepped
-outcome_step run e O.Born = quiet_step run e
-outcome_step run e O.NotEligible = quiet_step run e
-outcome_step run e O.Dropped = quiet_step run e
-outcome_step run e (O.Refused r) = refused_step run e r
+abbrev pub outcome_step : Run → Engine → Fired → Stepped
+outcome_step run e (Ok Born) = quiet_step run e
+outcome_step run e (Ok NotEligible) = quiet_step run e
+outcome_step run e (Ok Dropped) = quiet_step run e
+outcome_step run e (Err r) = refused_step run e r
 
 abbrev pub fired_of : Run → Triggered → Stepped
 fired_of run t = outcome_step run t.engine t.outcome
 
 abbrev pub shown_step : Engine → Frame → Stepped
-shown_step e f = record { run = record { engine = e; frame = f }; reply = R.Framed (values_of e f.activity) }
+shown_step e f = record { run = record { engine = e; frame = f }; reply = (Ok (Some (values_of e f.activity))) }
 
 abbrev pub frame_step_of : Run → Engine → Frame → Answer → Stepped
-frame_step_of run e f A.Taken = shown_step e f
-frame_step_of run e f (A.Refused r) = refused_step run e r
+frame_step_of run e f (Ok tt) = shown_step e f
+frame_step_of run e f (Err r) = refused_step run e r
 
 abbrev pub framed_step : Run → Framed → Stepped
 framed_step run f = frame_step_of run f.engine f.frame f.answer

@@ -3,10 +3,9 @@
 
 ghost use Rattle.std.specs.Prelude.{◌≡◌};
 ghost use Rattle.script_steps.specs.Steps as Steps;
-ghost use Rattle.script_steps.specs.Replies.{reply_of, outcome_reply};
+ghost use Rattle.script_steps.specs.Replies.{reply_of};
 
-use engine::Outcome;
-use refusals::{Answer, Refusal};
+use refusals::Refusal;
 use state::Engine;
 use windows::Frame;
 
@@ -21,19 +20,12 @@ pub struct Run {
     pub frame: Frame,
 }
 
-// What a field comes to: nothing to print, a refusal, an accepted frame.
-#[derive(Clone, Copy)]
-pub enum Reply {
-    Quiet,
-    Refused(Refusal),
-    Framed(Values),
-}
-
-// Both, as the definition of a field's step gives them.
+// The run after a field, and what the field comes to: a refusal, the values of an accepted frame, or
+// nothing to print.
 #[derive(Clone, Copy)]
 pub struct Stepped {
     pub run: Run,
-    pub reply: Reply,
+    pub reply: Result<Option<Values>, Refusal>,
 }
 
 // Before the first field; the rate replaces the engine.
@@ -48,23 +40,12 @@ pub fn fresh() -> Run
     }
 }
 
-pub fn answered(answer: Answer) -> Reply
+// Only a refusal is printed: neither that a call took what it was given, nor what a trigger came to.
+pub fn answered<T: Drop>(answer: Result<T, Refusal>) -> Result<Option<Values>, Refusal>
     ensures { result ≡ reply_of answer }
 {
     match answer {
-        Answer::Taken => Reply::Quiet,
-        Answer::Refused(refusal) => Reply::Refused(refusal),
-    }
-}
-
-// Born, not eligible and dropped print nothing.
-pub fn fired(outcome: Outcome) -> Reply
-    ensures { result ≡ outcome_reply outcome }
-{
-    match outcome {
-        Outcome::Born => Reply::Quiet,
-        Outcome::NotEligible => Reply::Quiet,
-        Outcome::Dropped => Reply::Quiet,
-        Outcome::Refused(refusal) => Reply::Refused(refusal),
+        Ok(_) => Ok(None),
+        Err(refusal) => Err(refusal),
     }
 }

@@ -1,4 +1,5 @@
 -- The two ways out of `write_tagged`.
+use Rattle.std.specs.Prelude.{Ok, Err}
 use Prim.Native.Nat.{ℕ, ◌+◌}
 use mathlib.Core.Path.{◌≡◌}
 use mathlib.Core.Bool.{true, false}
@@ -7,17 +8,16 @@ use lib.ListN.{length}
 use lib.Dec.{leb}
 use borrow.Author.Tests.{leb-true}
 use Rattle.text.specs.Put.{Put, buffer_of}
-use Rattle.refusals.specs.declared.Answer.TheVariants.{Taken, Refused}
 use Rattle.refusals.specs.declared.Refusal.TheVariants.{Room}
 use Rattle.script_writer.specs.Written.{written_of}
 
 module _ (o : List ℕ) (at : ℕ) (w : List ℕ) {n : ℕ} (size : n ≡ length w) where
-  pub no_room : leb (at + n) (length o) ≡ false → (record { count = at; answer = Refused Room } ≡ written_of (length o) at w) × (o ≡ buffer_of o at w)
+  pub no_room : leb (at + n) (length o) ≡ false → (Err Room ≡ written_of (length o) at w) × (o ≡ buffer_of o at w)
   unfolding written_of buffer_of
   no_room h = let e = rw size at h in (rw e, rw e)
 
   pub with_room : {p : List ℕ} {r : ℕ} → leb (at + n) (length o) ≡ true → Put o p at r w
-      → (record { count = r; answer = Taken } ≡ written_of (length o) at w) × (p ≡ buffer_of o at w)
+      → (Ok r ≡ written_of (length o) at w) × (p ≡ buffer_of o at w)
   unfolding written_of buffer_of
   with_room h d =
       let e : leb (at + length w) (length o) ≡ true = rw size at h in

@@ -1,10 +1,14 @@
 -- What writing a field answers. What it leaves in the buffer is `buffer_of` (`text`, Put.antt). Definitions only.
-use Rattle.std.specs.Prelude.{ℕ, ◌+◌, cond, List, length, leb}
-use Rattle.refusals.specs.declared.Answer.TheVariants.{Taken, Refused}
+use Rattle.std.specs.Prelude.{ℕ, ◌+◌, cond, List, length, leb, Result, Ok, Err}
+use Rattle.refusals.specs.declared.Refusal.{Refusal}
+use Rattle.std.specs.Result.{result_unwrap_or}
 use Rattle.refusals.specs.declared.Refusal.TheVariants.{Room}
-use Rattle.script_writer.specs.declared.Written.{Written}
 
--- the count after the field; 13 with the count so far where the free bytes are fewer than it needs
-unfoldable pub written_of : ℕ → ℕ → List ℕ → Written
+-- the count after the field; 13 where the free bytes are fewer than it needs
+unfoldable pub written_of : ℕ → ℕ → List ℕ → Result ℕ Refusal
 written_of has at w =
-    cond (leb (at + length w) has) (record { count = at + length w; answer = Taken }) (record { count = at; answer = Refused Room })
+    cond (leb (at + length w) has) (Ok (at + length w)) (Err Room)
+
+-- how many bytes the buffer holds then; as many as before where nothing was written
+abbrev pub count_of : ℕ → Result ℕ Refusal → ℕ
+count_of at r = result_unwrap_or r at

@@ -6,7 +6,7 @@ ghost use Rattle.text.specs.Put.{buffer_of};
 ghost use Rattle.script_writer.specs.Encoded.{encoded};
 ghost use Rattle.script_writer.specs.Written.{written_of};
 
-use refusals::Answer;
+use refusals::Refusal;
 use script::Field;
 
 mod events;
@@ -19,15 +19,9 @@ pub use events::{
     write_trigger,
 };
 
-#[derive(Clone, Copy)]
-pub struct Written {
-    // How many bytes the buffer holds now.
-    pub count: usize,
-    pub answer: Answer,
-}
-
-// The field behind the `at` bytes that `out` holds. Where it does not fit, nothing is written.
-pub fn write_field(field: Field, out: &mut [u8], at: usize) -> Written
+// The field behind the `at` bytes that `out` holds, and how many it holds then. Where it does not fit,
+// nothing is written.
+pub fn write_field(field: Field, out: &mut [u8], at: usize) -> Result<usize, Refusal>
     ensures { (result ≡ written_of (length out.old) at (encoded field)) × (out.new ≡ buffer_of out.old at (encoded field)) }
 {
     match field {

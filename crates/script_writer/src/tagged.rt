@@ -4,9 +4,8 @@ ghost use Rattle.text.specs.Put.{buffer_of};
 ghost use Rattle.big_endian.specs.Bytes.{tagged};
 ghost use Rattle.script_writer.specs.Written.{written_of};
 
-use crate::Written;
 use big_endian::bytes16;
-use refusals::{Answer, Refusal};
+use refusals::Refusal;
 
 // Whether n bytes more fit behind the `at` bytes of a buffer that has `has`.
 fn has_room(has: usize, at: usize, n: usize) -> bool
@@ -18,7 +17,7 @@ fn has_room(has: usize, at: usize, n: usize) -> bool
     n <= has - at
 }
 
-pub fn write_tagged(tag: u8, value: &[u8], out: &mut [u8], at: usize) -> Written
+pub fn write_tagged(tag: u8, value: &[u8], out: &mut [u8], at: usize) -> Result<usize, Refusal>
     requires { length value.now < 65536 }
     ensures { (result ≡ written_of (length out.old) at (tagged tag value.now)) × (out.new ≡ buffer_of out.old at (tagged tag value.now)) }
 {
@@ -28,13 +27,7 @@ pub fn write_tagged(tag: u8, value: &[u8], out: &mut [u8], at: usize) -> Written
         let head = [tag, size[0], size[1]];
         let behind = text::put(out, at, &head);
         let end = text::put(out, behind, value);
-        return Written {
-            count: end,
-            answer: Answer::Taken,
-        };
+        return Ok(end);
     }
-    Written {
-        count: at,
-        answer: Answer::Refused(Refusal::Room),
-    }
+    Err(Refusal::Room)
 }

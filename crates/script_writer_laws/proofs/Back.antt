@@ -1,4 +1,5 @@
 -- One event that was written is read back, whatever stands behind it.
+use Rattle.std.specs.Prelude.{Some, Ok}
 use Prim.Native.Nat.{ℕ, ◌+◌, ◌*◌, ◌/◌, ◌%◌, ◌≤◌}
 use mathlib.Core.Path.{◌≡◌, refl, ap, ◌∙◌}
 use mathlib.Core.Bool.{Bool, true, false}
@@ -20,7 +21,6 @@ use Rattle.script.specs.Table.{config_of, lawful_config}
 use Rattle.script.specs.declared.fields.Field.{Field}
 use Rattle.script.specs.declared.fields.Field.TheVariants as F
 use Rattle.script.specs.Field.{read_of, misplaced, unknown}
-use Rattle.script.specs.declared.Read.TheVariants as R
 use Rattle.script.proofs.Whole.{Whole, taken-whole}
 use Rattle.big_endian.specs.Bytes.{flag_of}
 use Rattle.settings.specs.ByNumber.{shape_number, direction_number, shape_from, direction_from}
@@ -159,5 +159,5 @@ whole_back (F.ReservedTrigger slot index) t h =
       takes = refl;
     }
 
-pub field_back : (f : Field) (t : List ℕ) (first : Bool) → Writable f → is_rate f ≡ first → read_of (encoded f ++ t) first ≡ R.Field f (length (encoded f))
+pub field_back : (f : Field) (t : List ℕ) (first : Bool) → Writable f → is_rate f ≡ first → read_of (encoded f ++ t) first ≡ Ok (Some (f, (length (encoded f))))
 field_back f t first h e = rw (← e) (taken-whole (whole_back f t h))

@@ -1,4 +1,5 @@
 -- A script has one rate: the first field that is read is one, and none behind it is.
+use Rattle.std.specs.Prelude.{Some, Ok}
 use Prim.Native.Nat.{ℕ, ◌≤◌}
 use native.Mathlib.Omega.{arith}
 use mathlib.Core.Path.{◌≡◌, refl, sym, ap, ◌∙◌, subst}
@@ -12,7 +13,6 @@ use Rattle.script.specs.Table.{field_of}
 use Rattle.script.specs.declared.fields.Field.{Field}
 use Rattle.script.specs.declared.tags.Kind.{Kind}
 use Rattle.script.specs.declared.tags.Kind.TheVariants as K
-use Rattle.script.specs.declared.Read.TheVariants as R
 use Rattle.script.specs.Field.{misplaced, read_of}
 use Rattle.script.specs.Reading.{Reading, onward}
 use Rattle.script.proofs.Steps.{Reads, field, wrong, end, onward-reads}
@@ -45,7 +45,7 @@ placed false true h = absurd (true≢false h)
 placed false false h = refl
 
 -- a field that is read is a rate exactly where it is the first
-read_rate : (s : List ℕ) (first : Bool) {f : Field} {k : ℕ} → read_of s first ≡ R.Field f k → is_rate f ≡ first
+read_rate : (s : List ℕ) (first : Bool) {f : Field} {k : ℕ} → read_of s first ≡ Ok (Some (f, k)) → is_rate f ≡ first
 unfolding misplaced
 read_rate s first e =
     let w = whole s first e in

@@ -1,4 +1,5 @@
 -- A list of events that was written is read back, event by event.
+use Rattle.std.specs.Prelude.{Some, Ok}
 use Prim.Native.Nat.{ℕ, ◌+◌, ◌≤◌}
 use mathlib.Core.Path.{◌≡◌, refl, sym, ap, ◌∙◌}
 use mathlib.Core.Bool.{false}
@@ -11,7 +12,6 @@ use borrow.Author.Tests.{ne_eqb, le-leb}
 use Rattle.sequences.specs.Every.{Every}
 use Rattle.script.specs.declared.fields.Field.{Field}
 use Rattle.script.specs.Field.{read_of}
-use Rattle.script.specs.declared.Read.TheVariants as R
 use Rattle.script.specs.Reading.{Reading, field_at, stopped, in_front, ended, reading_of}
 use Rattle.script.proofs.Steps.{Reads, field, end, only, moved}
 use Rattle.script.proofs.Whole.{end_of_all}
@@ -29,7 +29,7 @@ later : (n : ℕ) → 2 ≤ n → eqb n 1 ≡ false
 later n h = ne_eqb n 1 (λ e. omega arith)
 
 -- one event, and what is behind it
-one_more : {n at : ℕ} (f : Field) (fs : List Field) {r : Reading} → read_of (encoded f ++ encoded_all fs) (eqb n 1) ≡ R.Field f (length (encoded f))
+one_more : {n at : ℕ} (f : Field) (fs : List Field) {r : Reading} → read_of (encoded f ++ encoded_all fs) (eqb n 1) ≡ Ok (Some (f, (length (encoded f))))
     → Reads (n + 1) (at + length (encoded f)) (encoded_all fs) r → Reads n at (encoded_all (f ∷ fs)) (in_front (field_at at (length (encoded f)) f) r)
 one_more f fs e d =
     field e (three_bytes f) (omega (arith, length-append (encoded f) (encoded_all fs)))

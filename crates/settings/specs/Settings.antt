@@ -1,11 +1,10 @@
 -- Which shape it is, the settings' default, and 01's limits of the hop and of the sample rate. Definitions only.
-use Rattle.std.specs.Prelude.{ℕ, Bool, true, false, ◌&&◌, ltb, Float}
+use Rattle.std.specs.Prelude.{ℕ, Bool, true, false, ◌&&◌, ltb, Float, Ok, Err}
 use Rattle.std.specs.Float.Ieee.{le}
 use Rattle.std.specs.Float.Ieee.Scale.{finite}
 use Rattle.sequences.specs.Pick.{pick}
 use Rattle.floats.specs.Names.{f32, zero32, one}
-use Rattle.refusals.specs.declared.Answer.{Answer}
-use Rattle.refusals.specs.declared.Answer.TheVariants.{Taken, Refused}
+use Rattle.refusals.specs.Numbers.{Answer}
 use Rattle.refusals.specs.declared.Refusal.TheVariants.{Size}
 use Rattle.settings.specs.declared.Config.{Config}
 use Rattle.settings.specs.declared.Shape.{Shape}
@@ -39,7 +38,7 @@ abbrev pub max_hop : ℕ
 max_hop = 16384
 
 unfoldable pub checked_of : Config → Answer
-checked_of c = pick (ltb max_hop c.hop_samples) (Refused Size) Taken
+checked_of c = pick (ltb max_hop c.hop_samples) (Err Size) (Ok tt)
 
 -- a lawful sample rate: finite, from 8,000 to 384,000
 unfoldable pub lawful_rate : Float → Bool

@@ -5,7 +5,7 @@
 ghost use Rattle.std.specs.Prelude.{◌≡◌};
 ghost use Rattle.settings.specs.Settings.{is_sprinkle, default_config, checked_of, lawful_rate};
 
-use refusals::{Answer, Refusal};
+use refusals::Refusal;
 
 mod by_number;
 mod envelopes;
@@ -81,13 +81,13 @@ pub fn default_config() -> Config
     }
 }
 
-pub fn checked(config: Config) -> Answer
+pub fn checked(config: Config) -> Result<(), Refusal>
     ensures { result ≡ checked_of config }
 {
     if config.hop_samples > MAX_HOP_SAMPLES {
-        Answer::Refused(Refusal::Size)
+        Err(Refusal::Size)
     } else {
-        Answer::Taken
+        Ok(())
     }
 }
 

@@ -1,9 +1,8 @@
 -- The engine with one group of its state in place of another, and what a call hands back. Definitions only.
-use Rattle.std.specs.Prelude.{false, List, Float}
+use Rattle.std.specs.Prelude.{false, List, Float, Ok, Err}
 use Rattle.std.specs.Float.{nan}
 use Rattle.floats.specs.Names.{add64}
 use Rattle.pool.specs.declared.Particle.{Particle}
-use Rattle.refusals.specs.declared.Answer.TheVariants.{Taken, Refused}
 use Rattle.refusals.specs.declared.Refusal.{Refusal}
 use Rattle.settings.specs.declared.Config.{Config}
 use Rattle.sources.specs.declared.Source.{Source}
@@ -137,10 +136,10 @@ with_config e x =
 
 -- ---- answers
 abbrev pub taken : Engine → Done
-taken e = record { answer = Taken; engine = e }
+taken e = record { answer = Ok tt; engine = e }
 
 abbrev pub refused : Refusal → Engine → Done
-refused r e = record { answer = Refused r; engine = e }
+refused r e = record { answer = Err r; engine = e }
 
 -- ---- what stands past the end of a list, where no call looks
 abbrev pub past_source : Source

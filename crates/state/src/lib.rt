@@ -5,7 +5,7 @@ ghost use Rattle.std.specs.Prelude.{◌≡◌};
 ghost use Rattle.state.specs.State.{taken, refused};
 
 use pool::{MAX_PARTICLES, Particle};
-use refusals::{Answer, Refusal};
+use refusals::Refusal;
 use settings::{Config, MAX_PARTIALS};
 use sources::{MAX_SOURCES, Source};
 use timing::{SPRINKLE_STREAMS, SprinkleStream};
@@ -71,14 +71,14 @@ pub struct Engine {
 #[derive(Clone, Copy)]
 pub struct Done {
     pub engine: Engine,
-    pub answer: Answer,
+    pub answer: Result<(), Refusal>,
 }
 
 pub fn take(engine: Engine) -> Done
     ensures { result ≡ taken engine }
 {
     Done {
-        answer: Answer::Taken,
+        answer: Ok(()),
         engine,
     }
 }
@@ -87,7 +87,7 @@ pub fn refuse(engine: Engine, refusal: Refusal) -> Done
     ensures { result ≡ refused refusal engine }
 {
     Done {
-        answer: Answer::Refused(refusal),
+        answer: Err(refusal),
         engine,
     }
 }

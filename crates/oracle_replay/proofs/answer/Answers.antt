@@ -1,15 +1,16 @@
 -- `answer` meets its contract: a case for each reading.
+use Rattle.std.proofs.Common.{rules}
 use Rattle.oracle_replay.specs.Replay.{answer_byte}
 use Rattle.oracle_replay.proofs.answer.Goals as goal
 
-pub returns-in-Field : goal.returns-in-Field
+pub returns-in-Ok-Some : goal.returns-in-Ok-Some
 unfolding answer_byte
-returns-in-Field c = rw (← c.read_field-read.ensures, c.in-Field.is, c.trigger.ensures)
+returns-in-Ok-Some c = search rules
 
-pub returns-in-Bad : goal.returns-in-Bad
+pub returns-in-Ok-None : goal.returns-in-Ok-None
 unfolding answer_byte
-returns-in-Bad c = rw (← c.read_field-read.ensures, c.in-Bad.is)
+returns-in-Ok-None c = search rules
 
-pub returns-in-End : goal.returns-in-End
+pub returns-in-Ok-None-2 : goal.returns-in-Ok-None-2
 unfolding answer_byte
-returns-in-End c = rw (← c.read_field-read.ensures, c.in-End.is)
+returns-in-Ok-None-2 c = search rules

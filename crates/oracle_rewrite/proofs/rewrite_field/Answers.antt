@@ -1,20 +1,16 @@
 -- `rewrite_field` meets its contract: a case for each reading.
-use mathlib.Core.Path.{refl, ap}
-use Rattle.script_writer.specs.declared.Written.{Written}
+use Rattle.std.proofs.Common.{rules}
 use Rattle.script_writer_laws.specs.InARow.{count_after, bytes_after}
 use Rattle.oracle_rewrite.proofs.rewrite_field.Goals as goal
 
-pub returns-in-Field : goal.returns-in-Field
+pub returns-in-Ok-Some : goal.returns-in-Ok-Some
 unfolding count_after bytes_after
-returns-in-Field c =
-    let w = c.write_field-written.ensures in
-    rw (← c.read_field-read.ensures, c.in-Field.is)
-    (refl, ap (λ (x : Written). x.count) w.0, w.1)
+returns-in-Ok-Some c = search rules
 
-pub returns-in-Bad : goal.returns-in-Bad
+pub returns-in-Err : goal.returns-in-Err
 unfolding count_after bytes_after
-returns-in-Bad c = rw (← c.read_field-read.ensures, c.in-Bad.is) (refl, refl, refl)
+returns-in-Err c = search rules
 
-pub returns-in-End : goal.returns-in-End
+pub returns-in-Ok-None : goal.returns-in-Ok-None
 unfolding count_after bytes_after
-returns-in-End c = rw (← c.read_field-read.ensures, c.in-End.is) (refl, refl, refl)
+returns-in-Ok-None c = search rules

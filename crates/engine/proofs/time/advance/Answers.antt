@@ -6,12 +6,11 @@ use Rattle.sequences.specs.Pick.{took, skipped}
 use Rattle.sequences.specs.Times.{iterate, iterate-none, iterate-more}
 use borrow.Author.Tests.{le-leb, lt-leb}
 use Rattle.engine_samples.specs.Sample.{stepped_of}
-use Rattle.state.specs.State.{with_clock}
+use Rattle.state.specs.State.{with_clock, taken}
 use Rattle.engine_samples.proofs.NothingDue.{waited_after}
 use Rattle.engine_samples.proofs.Waits.{waited_few}
 use Rattle.engine_samples.proofs.Delivered.{by-lanes, by-cloud, by-none}
 use Rattle.engine.specs.Advance.{advanced_of}
-use Rattle.state.specs.State.{taken}
 use borrow.Author.Rules.{rules}
 use Rattle.engine.proofs.time.advance.Goals as goal
 use Rattle.engine.proofs.time.advance.Goals.{then-config+in-Sprinkle, then-config+in-Cloud, else-config}

@@ -2,8 +2,7 @@
 use Prim.Native.Nat.{ℕ}
 use mathlib.Core.Path.{ap, ◌∙◌}
 use mathlib.Core.List.{List}
-use Rattle.mask_files.specs.declared.Filed.{Filed}
-use Rattle.mask_files.specs.Masks.{filed_number}
+use Rattle.mask_files.specs.Masks.{Filed, filed_number}
 use Rattle.host.specs.Masks.{place_by}
 use Rattle.host.proofs.masks.rk_masks.Goals as goal
 

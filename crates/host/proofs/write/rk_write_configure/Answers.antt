@@ -1,7 +1,7 @@
 -- `rk_write_configure` meets its contract: the settings of these numbers.
 use Rattle.script.specs.declared.fields.Field.TheVariants as F
 use Rattle.host.specs.Write.{config_from}
-use Rattle.host.proofs.Told.{told-by}
+use Rattle.host.proofs.Telling.{told-by}
 use Rattle.host.proofs.write.rk_write_configure.Goals as goal
 
 pub returns : goal.returns

@@ -1,6 +1,6 @@
 -- `rk_write_note_input` meets its contract: its event.
 use Rattle.script.specs.declared.fields.Field.TheVariants as F
-use Rattle.host.proofs.Told.{told-by}
+use Rattle.host.proofs.Telling.{told-by}
 use Rattle.host.proofs.write.rk_write_note_input.Goals as goal
 
 pub returns : goal.returns

@@ -1,6 +1,6 @@
 -- `rk_write_seek` meets its contract: its event.
 use Rattle.script.specs.declared.fields.Field.TheVariants as F
-use Rattle.host.proofs.Told.{told-by}
+use Rattle.host.proofs.Telling.{told-by}
 use Rattle.host.proofs.write.rk_write_seek.Goals as goal
 
 pub returns : goal.returns

@@ -1,13 +1,36 @@
--- `bad_place` meets its contract: one test.
-use Rattle.std.proofs.Common.{sym, refl, ◌∙◌, eq-eqb, ne_eqb}
+-- `bad_place` meets its contract: the one refusal, and all others.
+use Rattle.std.proofs.Common.{◌≡◌, ◌==◌, false, refl}
 use Rattle.sequences.specs.Pick.{took, skipped}
+use Rattle.refusals.specs.declared.Refusal.{Refusal}
+use Rattle.refusals.specs.declared.Refusal.TheVariants.{Rate, Slot, Size, Elapsed, Lengths, Logs, Seconds, Tag, Value, Place, Script, Room, HeaderCut, WrongLength, ValueCut, Attenuation, Record}
+use Rattle.refusals.specs.Numbers.{number_of}
 use Rattle.listing.specs.Turns.{bad_place}
 use Rattle.listing.proofs.turns.bad_place.Goals as goal
 
-pub returns-then-number : goal.returns-then-number
-unfolding bad_place
-returns-then-number c = took _ _ _ _ (eq-eqb _ _ (sym c.number.ensures ∙ c.if-number.true ∙ c.number-2.ensures)) refl
+-- no other refusal has its number
+other_number : (r : Refusal) → (r ≡ HeaderCut → ⊥) → (number_of r == number_of HeaderCut) ≡ false
+other_number Rate h = refl
+other_number Slot h = refl
+other_number Size h = refl
+other_number Elapsed h = refl
+other_number Lengths h = refl
+other_number Logs h = refl
+other_number Seconds h = refl
+other_number Tag h = refl
+other_number Value h = refl
+other_number Place h = refl
+other_number Script h = refl
+other_number Room h = refl
+other_number HeaderCut h = absurd (h refl)
+other_number WrongLength h = refl
+other_number ValueCut h = refl
+other_number Attenuation h = refl
+other_number Record h = refl
 
-pub returns-else-number : goal.returns-else-number
+pub returns-in-HeaderCut : goal.returns-in-HeaderCut
 unfolding bad_place
-returns-else-number c = skipped _ _ _ _ (ne_eqb _ _ (λ e. c.if-number.false (c.number.ensures ∙ e ∙ sym c.number-2.ensures))) refl
+returns-in-HeaderCut c = rw c.in-HeaderCut.is (took _ _ _ _ refl refl)
+
+pub returns-in_default : goal.returns-in_default
+unfolding bad_place
+returns-in_default c = skipped _ _ _ _ (other_number c.args.refusal c.in_default.not-HeaderCut) refl

@@ -1,16 +1,16 @@
 -- `rate` meets its contract: a case for each reading.
-use Rattle.std.proofs.Common.{sym, ap, ◌∙◌}
-use Rattle.mask_files.specs.Masks.{rate_by, script_rate}
+use Rattle.std.proofs.Common.{rules}
+use Rattle.mask_files.specs.Masks.{script_rate}
 use Rattle.mask_files.proofs.rate.rate.Goals as goal
 
-pub returns-in-Field : goal.returns-in-Field
+pub returns-in-Ok-Some : goal.returns-in-Ok-Some
 unfolding script_rate
-returns-in-Field c = c.rate_in.ensures ∙ ap rate_by (sym c.in-Field.is ∙ c.read_field-read.ensures)
+returns-in-Ok-Some c = search rules
 
-pub returns-in-Bad : goal.returns-in-Bad
+pub returns-in-Ok-None : goal.returns-in-Ok-None
 unfolding script_rate
-returns-in-Bad c = ap rate_by (sym c.in-Bad.is ∙ c.read_field-read.ensures)
+returns-in-Ok-None c = search rules
 
-pub returns-in-End : goal.returns-in-End
+pub returns-in-Ok-None-2 : goal.returns-in-Ok-None-2
 unfolding script_rate
-returns-in-End c = ap rate_by (sym c.in-End.is ∙ c.read_field-read.ensures)
+returns-in-Ok-None-2 c = search rules

@@ -1,15 +1,15 @@
 -- `ones` meets its contract: one test.
+use Rattle.std.specs.Prelude.{Ok}
 use mathlib.Core.Path.{refl, sym, ap, ◌∙◌}
 use mathlib.Core.List.{List}
 use lib.Ieee.{Float}
 use Rattle.sequences.specs.Pick.{took, skipped}
-use Rattle.refusals.specs.declared.Answer.{Answer}
-use Rattle.refusals.specs.declared.Answer.TheVariants.{Taken}
+use Rattle.refusals.specs.Numbers.{Answer}
 use Rattle.mask_gains.specs.Gains.{ones_of}
 use Rattle.mask_gains.proofs.gain.ones.Goals as goal
 
 taken-with : List Float → Answer × List Float
-taken-with ys = (Taken, ys)
+taken-with ys = (Ok tt, ys)
 
 pub returns-then-lawful : goal.returns-then-lawful
 unfolding ones_of taken-with

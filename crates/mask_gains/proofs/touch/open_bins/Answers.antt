@@ -1,4 +1,5 @@
 -- `open_bins` meets its contract: a test for each refusal, in 01's order, then the walk over shut bins.
+use Rattle.std.specs.Prelude.{Ok}
 use Prim.Native.Nat.{ℕ}
 use mathlib.Core.Path.{refl, sym, ap, ◌∙◌}
 use mathlib.Core.List.{List}
@@ -7,14 +8,13 @@ use lib.Ieee.{Float}
 use Rattle.sequences.specs.Pick.{took, skipped}
 use Rattle.sequences.specs.Table.{table}
 use Rattle.floats.specs.Names.{zero32}
-use Rattle.refusals.specs.declared.Answer.{Answer}
-use Rattle.refusals.specs.declared.Answer.TheVariants.{Taken}
+use Rattle.refusals.specs.Numbers.{Answer}
 use Rattle.mask_gains.specs.Opened.{open_at, opened_of}
 use Rattle.mask_gains.proofs.Ordered.{sorted}
 use Rattle.mask_gains.proofs.touch.open_bins.Goals as goal
 
 taken-with : List Float → Answer × List Float
-taken-with ys = (Taken, ys)
+taken-with ys = (Ok tt, ys)
 
 pub returns-then-scratch-logs : goal.returns-then-scratch-logs
 unfolding opened_of

@@ -1,6 +1,6 @@
 -- `read_record` meets its contract: the end, then a test for each refusal in order.
 use lib.Seq.{length-take-le}
-use Rattle.mask_records.proofs.Records.{count_most, at_end, no_head, unknown-entry, no_places, found}
+use Rattle.mask_records.proofs.Records.{count_most, at_end, no_head, unknown-entry, no_places, read_found}
 use native.Mathlib.Omega.{arith}
 use mathlib.Core.Path.{sym, ◌∙◌}
 use Rattle.mask_records.proofs.reading.read_record.Goals as goal
@@ -20,7 +20,7 @@ hand_out-requires c = let m = count_most _ (sym c.is_headed.ensures ∙ c.if-is_
     omega (arith, m, c.be16_at-n.ensures, l)
 
 pub returns-then-n-lent : goal.returns-then-n-lent
-returns-then-n-lent c = found _ _ c.if-s-eq0.false (sym c.is_headed.ensures ∙ c.if-is_headed.true) _ c.be16_at-n.ensures (sym c.all_entries.ensures ∙ c.if-all_entries.true) c.if-n-lent.true _ _ c.be64_at.ensures c.hand_out.ensures
+returns-then-n-lent c = read_found _ _ c.if-s-eq0.false (sym c.is_headed.ensures ∙ c.if-is_headed.true) _ c.be16_at-n.ensures (sym c.all_entries.ensures ∙ c.if-all_entries.true) c.if-n-lent.true _ _ c.be64_at.ensures c.hand_out.ensures
 
 pub returns-then-all_entries : goal.returns-then-all_entries
 returns-then-all_entries c = no_places _ _ c.if-s-eq0.false (sym c.is_headed.ensures ∙ c.if-is_headed.true) _ c.be16_at-n.ensures (sym c.all_entries.ensures ∙ c.if-all_entries.true) c.if-n-lent.false
