@@ -1,5 +1,5 @@
 -- The two passes over a script: one counts what the other writes.
-use Rattle.std.proofs.Common.{◌≡◌, ℕ, ◌+◌, ◌-◌, ◌*◌, ◌≤◌, List, [], length, sym, ap, ◌∙◌, subst, arith, length-append, Ok, Err}
+use Rattle.std.proofs.Common.{◌≡◌, ℕ, ◌+◌, ◌-◌, ◌*◌, ◌≤◌, List, [], length, sym, refl, ap, ◌∙◌, subst, arith, length-append, Ok, Err}
 use lib.Ieee.{Float}
 use Rattle.text.specs.Put.{Put, splice}
 use Rattle.text.proofs.Laws.{nothing, seq, spliced}
@@ -8,10 +8,9 @@ use Rattle.refusals.specs.declared.Refusal.{Refusal}
 use Rattle.script_steps.specs.Steps.{fresh}
 use Rattle.listing.specs.Turns.{turns_of}
 use Rattle.mask_records.specs.Placed.{record_size}
-use Rattle.mask_files.specs.declared.Measured.{Measured}
 use Rattle.mask_files.specs.declared.Walk.{Walk}
 use Rattle.mask_files.specs.Records.{filed_of}
-use Rattle.mask_files.specs.Walk.{walk_start, measured_of}
+use Rattle.mask_files.specs.Walk.{walk_start, counted_as, measured_of}
 use Rattle.mask_files.proofs.Passing.{filed_from}
 use Rattle.mask_files.proofs.Steps.{Stands, left_of, Recorded, Unrecorded, ends, full}
 use Rattle.mask_gains.proofs.Shaped.{apart}
@@ -68,21 +67,18 @@ module _ (depth : Float) (logs : List Float) (script : List ℕ) where
             goes = ap (λ (x : List ℕ × Answer). x.1) (sym w.files) ∙ m.goes;
           }
 
-    pub measuring_ends : (a b : Answer) → a ≡ b → left_of depth logs script walk ≡ ([], b) → record { bytes = bytes; answer = a } ≡ measured_of (whole_of depth logs script)
+    pub measuring_ends : (a b : Answer) → a ≡ b → left_of depth logs script walk ≡ ([], b) → counted_as a bytes ≡ measured_of (whole_of depth logs script)
     measuring_ends a b s e =
         let count = m.counted in
         let none : length (left_of depth logs script walk).0 ≡ 0 = ap (λ (x : List ℕ × Answer). length x.0) e in
         let long : bytes ≡ length (whole_of depth logs script).0 = omega arith in
         let end : a ≡ (whole_of depth logs script).1 = s ∙ sym (ap (λ (x : List ℕ × Answer). x.1) e) ∙ m.goes in
-        made bytes (length (whole_of depth logs script).0) a (whole_of depth logs script).1 long end
-      where
-        made : (x y : ℕ) (c d : Answer) → x ≡ y → c ≡ d → ◌≡◌ {A = Measured} (record { bytes = x; answer = c }) (record { bytes = y; answer = d })
-        made x y c d p q = rw (p, q)
+        ap (λ (c : Answer). counted_as c bytes) end ∙ ap (counted_as (whole_of depth logs script).1) long
 
-    pub measuring_stops : (room : ℕ) (r : Refusal) (a : Answer) → a ≡ Err r → record_size (length logs) ≤ room → Unrecorded (left_of depth logs script walk) room (record_size (length logs)) 0 r
-        → record { bytes = bytes; answer = a } ≡ measured_of (whole_of depth logs script)
-    measuring_stops room r a s fits (ends e) = measuring_ends a (Err r) s e
-    measuring_stops room r a s fits (full h g) = absurd (omega arith)
+    pub measuring_stops : (room : ℕ) (r : Refusal) → record_size (length logs) ≤ room → Unrecorded (left_of depth logs script walk) room (record_size (length logs)) 0 r
+        → Err r ≡ measured_of (whole_of depth logs script)
+    measuring_stops room r fits (ends e) = measuring_ends (Err r) (Err r) refl e
+    measuring_stops room r fits (full h g) = absurd (omega arith)
 
 -- ---- the second pass
 pub record Writing (depth : Float) (logs : List Float) (script o : List ℕ) (start : ℕ) (out : List ℕ) (walk : Walk) (at : ℕ) : Type 0 where

@@ -1,7 +1,8 @@
 -- The ways through `place` and `masks`: what they answer is `masks_of`.
-use Rattle.std.proofs.Common.{◌≡◌, ℕ, ◌+◌, ◌<◌, ◌≤◌, List, length, sym, refl, ap, ◌∙◌, le-ltb, lt-ltb, le-leb, Ok, Err}
+use Rattle.std.proofs.Common.{◌≡◌, ℕ, ◌+◌, ◌<◌, ◌≤◌, List, length, sym, refl, ap, ◌∙◌, le-ltb, lt-ltb, le-leb, arith, Result, Ok, Err}
 use borrow.Author.Tests.{lt-leb}
 use lib.Ieee.{Float}
+use Rattle.std.specs.Result.{result_unwrap_or}
 use Rattle.sequences.specs.Pick.{took, skipped}
 use Rattle.text.specs.Put.{splice}
 use Rattle.refusals.specs.Numbers.{Answer}
@@ -9,34 +10,44 @@ use Rattle.refusals.specs.declared.Refusal.{Refusal}
 use Rattle.refusals.specs.declared.Refusal.TheVariants.{Size, Script, Room}
 use Rattle.listing.specs.Turns.{turns_of}
 use Rattle.mask_files.specs.Masks.{Filed, logs_for, placed_by, filed_into, masks_of}
-use Rattle.mask_files.specs.declared.Measured.{Measured}
 use Rattle.mask_files.specs.Records.{filed_of}
-use Rattle.mask_files.specs.Walk.{measured_of}
+use Rattle.mask_files.specs.Walk.{counted_as, measured_of}
 
 -- ---- by what was measured
-module _ (filed : List ℕ × Answer) (m : Measured) (is : m ≡ measured_of filed) (out : List ℕ) (at : ℕ) where
-  bytes_are : m.bytes ≡ length filed.0
-  bytes_are = ap (λ (x : Measured). x.bytes) is
+-- a count: the records end well, and are so long
+counted : (a : Answer) (k n : ℕ) → ◌≡◌ {A = Result ℕ Refusal} (Ok n) (counted_as a k) → (a ≡ Ok tt) × (n ≡ k)
+counted (Ok tt) k n e = (refl, ap (λ (r : Result ℕ Refusal). result_unwrap_or r n) e)
+counted (Err r) k n e = absurd (let z : ◌≡◌ {A = ℕ} 0 1 = cc in omega arith)
 
-  pub ended_so : (a : Answer) → m.answer ≡ a → filed.1 ≡ a
-  ended_so a e = sym (ap (λ (x : Measured). x.answer) is) ∙ e
+-- a refusal: it is what ended them
+stopped : (a : Answer) (k : ℕ) (r : Refusal) → ◌≡◌ {A = Result ℕ Refusal} (Err r) (counted_as a k) → a ≡ Err r
+stopped (Ok tt) k r e = absurd (let z : ◌≡◌ {A = ℕ} 0 1 = cc in omega arith)
+stopped (Err q) k r e = let same : q ≡ r = cc in ap Err same
 
-  by_end : (a : Answer) → m.answer ≡ a → (x : Filed × List ℕ) → x ≡ placed_by filed.0 a out at → x ≡ filed_into filed out at
-  by_end a e x p = p ∙ ap (λ (b : Answer). placed_by filed.0 b out at) (sym (ended_so a e))
+module _ (filed : List ℕ × Answer) (m : Result ℕ Refusal) (is : m ≡ measured_of filed) (out : List ℕ) (at : ℕ) where
+  by_end : (a : Answer) → filed.1 ≡ a → (x : Filed × List ℕ) → x ≡ placed_by filed.0 a out at → x ≡ filed_into filed out at
+  by_end a e x p = p ∙ ap (λ (b : Answer). placed_by filed.0 b out at) (sym e)
 
-  pub refused_end : (r : Refusal) → m.answer ≡ Err r → (Err r, out) ≡ filed_into filed out at
-  refused_end r e = by_end (Err r) e _ refl
+  pub refused_end : (r : Refusal) → m ≡ Err r → (Err r, out) ≡ filed_into filed out at
+  refused_end r e = by_end (Err r) (stopped filed.1 (length filed.0) r (sym e ∙ is)) _ refl
 
-  pub no_room : m.answer ≡ Ok tt → length out < at + m.bytes → (Err Room, out) ≡ filed_into filed out at
-  no_room e h = by_end (Ok tt) e _ (skipped _ _ _ _ (lt-leb _ _ (rw (bytes_are) at h)) refl)
+  module _ (bytes : ℕ) (e : m ≡ Ok bytes) where
+    ends_well : (filed.1 ≡ Ok tt) × (bytes ≡ length filed.0)
+    ends_well = counted filed.1 (length filed.0) bytes (sym e ∙ is)
 
-  pub room : at + m.bytes ≤ length out → at + length filed.0 ≤ length out
-  room h = rw (bytes_are) at h
+    pub ended_so : filed.1 ≡ Ok tt
+    ended_so = ends_well.0
 
-  pub written : m.answer ≡ Ok tt → at + m.bytes ≤ length out → (p : ℕ) (new : List ℕ) → (p ≡ at + length filed.0) × (new ≡ splice out at filed.0) → (Ok p, new) ≡ filed_into filed out at
-  written e h p new w =
-      by_end (Ok tt) e _
-      (took _ _ _ _ (le-leb _ _ (room h)) (ap (λ (k : ℕ). (Ok k, new)) w.0 ∙ ap (λ (x : List ℕ). (Ok (at + length filed.0), x)) w.1))
+    pub no_room : length out < at + bytes → (Err Room, out) ≡ filed_into filed out at
+    no_room h = by_end (Ok tt) ended_so _ (skipped _ _ _ _ (lt-leb _ _ (rw (ends_well.1) at h)) refl)
+
+    pub room : at + bytes ≤ length out → at + length filed.0 ≤ length out
+    room h = rw (ends_well.1) at h
+
+    pub written : at + bytes ≤ length out → (p : ℕ) (new : List ℕ) → (p ≡ at + length filed.0) × (new ≡ splice out at filed.0) → (Ok p, new) ≡ filed_into filed out at
+    written h p new w =
+        by_end (Ok tt) ended_so _
+        (took _ _ _ _ (le-leb _ _ (room h)) (ap (λ (k : ℕ). (Ok k, new)) w.0 ∙ ap (λ (x : List ℕ). (Ok (at + length filed.0), x)) w.1))
 
 -- ---- by the size and the script
 module _ (script : List ℕ) (size : ℕ) (depth : Float) (out : List ℕ) (at : ℕ) where

@@ -1,5 +1,6 @@
 -- A walk over the accepted frames of a script, a record a step. Definitions only.
-use Rattle.std.specs.Prelude.{ℕ, ◌+◌, List, length, Float, Ok, Err}
+use Rattle.std.specs.Prelude.{ℕ, ◌+◌, List, length, Float, Result, Ok, Err}
+use Rattle.refusals.specs.declared.Refusal.{Refusal}
 use Rattle.refusals.specs.Numbers.{Answer}
 use Rattle.floats.specs.Word.{grown}
 use Rattle.script_steps.specs.Steps.{fresh}
@@ -13,7 +14,6 @@ use Rattle.mask_records.specs.Placed.{Written}
 use Rattle.mask_records.specs.Written.{record_written}
 use Rattle.mask_files.specs.declared.Made.{Made}
 use Rattle.mask_files.specs.declared.Made.TheVariants as M
-use Rattle.mask_files.specs.declared.Measured.{Measured}
 use Rattle.mask_files.specs.declared.Step.{Step}
 use Rattle.mask_files.specs.declared.Walk.{Walk}
 
@@ -53,6 +53,11 @@ walk_step walk script depth logs scratch out at =
     let r = reach_of walk script in
     step_by (walk_after r) r.turn.run.frame r.turn.line depth logs scratch out at
 
--- how many bytes there are, and how they end
-abbrev pub measured_of : List ℕ × Answer → Measured
-measured_of filed = record { bytes = length filed.0; answer = filed.1 }
+-- so many bytes, where they end well
+abbrev pub counted_as : Answer → ℕ → Result ℕ Refusal
+counted_as (Ok tt) n = Ok n
+counted_as (Err r) n = Err r
+
+-- how many bytes there are, or what ended them
+abbrev pub measured_of : List ℕ × Answer → Result ℕ Refusal
+measured_of filed = counted_as filed.1 (length filed.0)

@@ -10,7 +10,7 @@ ghost use Rattle.mask_files.specs.Masks.{bins_of, logs_for, filed_into, masks_of
 ghost use Rattle.mask_files.specs.Walk.{measured_of};
 
 use crate::frames::{next_record, start};
-use crate::{Made, Measured};
+use crate::Made;
 use refusals::Refusal;
 
 // Each record goes to the start of the same bytes.
@@ -20,7 +20,7 @@ fn measure(
     logs: &[f32],
     scratch: &mut [f32],
     lent: &mut [u8],
-) -> Measured
+) -> Result<usize, Refusal>
     requires script_fits { length script.now ≤ 60000 }
     requires logs_lawful { (1 ≤ length logs.now) × (length logs.now ≤ 8193) × (lawful_logs logs.now ≡ true) × (length scratch.old ≡ length logs.now) }
     requires lent_fits { record_size (length logs.now) ≤ length lent.old }
@@ -38,12 +38,11 @@ fn measure(
                 walk = next;
             }
             Made::Refused(_, refusal) => {
-                let answer = Err(refusal);
-                return Measured { bytes, answer };
+                return Err(refusal);
             }
             Made::Last(line) => {
-                let answer = listing::bad_of(line);
-                return Measured { bytes, answer };
+                listing::bad_of(line)?;
+                return Ok(bytes);
             }
         }
     }
@@ -99,12 +98,11 @@ fn place(
     requires lent_fits { record_size (length logs.now) ≤ length lent.old }
     ensures { (result, out.new) ≡ filed_into (filed_of depth_db logs.now (turns_of script.now)) out.old at }
 {
-    let measured = measure(script, depth_db, logs, scratch, lent);
-    measured.answer?;
+    let bytes = measure(script, depth_db, logs, scratch, lent)?;
     if out.len() < at {
         return Err(Refusal::Room);
     }
-    if out.len() - at < measured.bytes {
+    if out.len() - at < bytes {
         return Err(Refusal::Room);
     }
     Ok(write_records(script, depth_db, logs, scratch, out, at))

@@ -37,10 +37,3 @@ pub struct Step {
     pub walk: Walk,
     pub made: Made,
 }
-
-// How many bytes a script's records take, and how they end.
-#[derive(Clone, Copy)]
-struct Measured {
-    bytes: usize,
-    answer: Result<(), Refusal>,
-}
