@@ -17,8 +17,7 @@ use Rattle.births.specs.Births.{partials_by, newborn_of}
 use Rattle.pitch_laws.proofs.Harmonics.{Picks, picks-lawful}
 use Rattle.pitch_laws.proofs.Octaves.{WholeUpto}
 use Rattle.pool.specs.declared.Particle.{Particle}
-use Rattle.pool.specs.declared.Retired.{Retired}
-use Rattle.pool.specs.declared.Retired.TheVariants.{Not, At}
+use Rattle.std.specs.Prelude.{Option, Some, None}
 use Rattle.pool.specs.Pool.{free_particle}
 use Rattle.settings.specs.declared.Config.{Config}
 use Rattle.settings.specs.declared.Shape.{Shape}
@@ -55,7 +54,7 @@ pub record Harmonics (ps : List ℕ) : Type 0 where
 -- of a particle that holds a place, at the sample `now`
 pub record Fit (now : ℕ) (p : Particle) : Type 0 where
   pub born : p.birth ≤ now
-  pub retired : (t : ℕ) → p.retirement ≡ At t → (p.birth ≤ t) × (t ≤ now)
+  pub retired : (t : ℕ) → p.retirement ≡ Some t → (p.birth ≤ t) × (t ≤ now)
   pub above : T (lt nought p.lifetime)
   pub most : T (le p.lifetime ten)
   pub slot : p.source ≤ 256
@@ -130,9 +129,9 @@ fit-later now later h p f = (later-fit, f.1)
         }
 
 -- ---- a newborn
-abbrev is_at : Retired → Bool
-is_at Not = false
-is_at (At t) = true
+abbrev is_at : Option ℕ → Bool
+is_at None = false
+is_at (Some t) = true
 
 one-harmonic : Harmonics (1 ∷ 0 ∷ 0 ∷ [])
 one-harmonic = record { three = refl; each = each }

@@ -7,7 +7,7 @@ ghost use Rattle.big_endian.specs.Bytes.{flag_of};
 ghost use Rattle.settings.specs.ByNumber.{shape_number, direction_number};
 ghost use Rattle.oracle_replay.specs.Numbers.{slot_of, retired_word, counts_of, config_words, prepared_words, harmonic_words, stream_words, source_words, particle_of};
 
-use pool::{Particle, Retired};
+use pool::Particle;
 use settings::{Config, Direction, Shape};
 use sources::{NO_SOURCE, Source};
 use state::{Engine, Prepared};
@@ -30,12 +30,12 @@ fn slot(n: usize) -> u64
     n as u64
 }
 
-fn retired(r: Retired) -> u64
+fn retired(r: Option<u64>) -> u64
     ensures { result ≡ retired_word r }
 {
     match r {
-        Retired::Not => NONE,
-        Retired::At(sample) => sample,
+        None => NONE,
+        Some(sample) => sample,
     }
 }
 

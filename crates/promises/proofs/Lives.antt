@@ -14,8 +14,7 @@ use lib.Ieee.{Float, le}
 use Rattle.sequences.specs.Pick.{pick, picked, passed, by-case}
 use Rattle.floats.specs.Names.{f64}
 use Rattle.pool.specs.declared.Particle.{Particle}
-use Rattle.pool.specs.declared.Retired.{Retired}
-use Rattle.pool.specs.declared.Retired.TheVariants.{Not, At}
+use Rattle.std.specs.Prelude.{Option, Some, None}
 use Rattle.pool.specs.Pool.{free_particle, first_retirement, retired_of, retire_one, retire_bound_one, retuned_of, retune_one}
 use Rattle.pool.specs.Vacancies.{free_place}
 use Rattle.pool.proofs.Lowest.{lowest-free, held_below}
@@ -50,22 +49,22 @@ keep : (p : Particle) → p.active ≡ true → living (life_of p) ≡ fate_of p
 keep p h = picked p.active (living (life_of p)) freed h
 
 -- ---- the engine's tests are those told
-faded-is : (e : Engine) (x : Retired) → retirement_of x e.clock.sample e.prepared.sample_rate ≡ faded e x
+faded-is : (e : Engine) (x : Option ℕ) → retirement_of x e.clock.sample e.prepared.sample_rate ≡ faded e x
 unfolding retirement_of seconds_of
-faded-is e Not = refl
-faded-is e (At since) = refl
+faded-is e None = refl
+faded-is e (Some since) = refl
 
 pub due-is : (e : Engine) (p : Particle) → due e (life_of p) ≡ due_of e.clock.sample e.prepared.sample_rate p
 unfolding due due_of seconds_of
 due-is e p = ap (λ (x : Float). le p.lifetime (age e (life_of p)) || le (f64 0x3ff0000000000000) x) (sym (faded-is e p.retirement))
 
-first-is : (x : Retired) (now : ℕ) → first_retired x now ≡ At (first_retirement x now)
-first-is Not now = refl
-first-is (At since) now = refl
+first-is : (x : Option ℕ) (now : ℕ) → first_retired x now ≡ Some (first_retirement x now)
+first-is None now = refl
+first-is (Some since) now = refl
 
 retired_life : (now : ℕ) (p : Particle) → retired_at now (life_of p) ≡ life_of (retired_of now p)
 unfolding retired_of
-retired_life now p = ap (λ (r : Retired). record { birth = p.birth; lifetime = p.lifetime; source = 256; retired = r }) (first-is p.retirement now)
+retired_life now p = ap (λ (r : Option ℕ). record { birth = p.birth; lifetime = p.lifetime; source = 256; retired = r }) (first-is p.retirement now)
 
 retired-told : (now : ℕ) (p : Particle) → p.active ≡ true → living (retired_at now (life_of p)) ≡ fate_of (retired_of now p)
 unfolding retired_of

@@ -14,8 +14,7 @@ use Rattle.floats.specs.Word.{grown}
 use Rattle.sequences.specs.Pick.{pick, picked, passed, by-case}
 use Rattle.sequences.specs.First.{first-is}
 use Rattle.pool.specs.declared.Particle.{Particle}
-use Rattle.pool.specs.declared.Retired.{Retired}
-use Rattle.pool.specs.declared.Retired.TheVariants.{Not, At}
+use Rattle.std.specs.Prelude.{Option, Some, None}
 use Rattle.pool.specs.Pool.{free_particle}
 use Rattle.pool.specs.Vacancies.{is_free, free_place}
 use Rattle.pool.proofs.Lowest.{held_below}
@@ -99,9 +98,9 @@ frees-only e (weights ws) l q = never l q
 frees-only e (settings c) l q = never l q
 
 -- ---- fixed
-stands : (r : ℕ) (x : Retired) (now : ℕ) → x ≡ At r → first_retired x now ≡ At r
-stands r Not now q = absurd (let z : ◌≡◌ {A = ℕ} 0 1 = cc in omega arith)
-stands r (At since) now q = q
+stands : (r : ℕ) (x : Option ℕ) (now : ℕ) → x ≡ Some r → first_retired x now ≡ Some r
+stands r None now q = absurd (let z : ◌≡◌ {A = ℕ} 0 1 = cc in omega arith)
+stands r (Some since) now q = q
 
 same : (l l' : Life) → living l ≡ living l' → Fixed l l'
 same l l' q = let p : l ≡ l' = cc in subst (λ (x : Life). Fixed l x) p (refl, refl, λ r h. h)

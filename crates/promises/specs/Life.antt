@@ -1,12 +1,10 @@
 -- The terms of demand 3: what is told of one particle, act by act, and what it means to hold a place. Definitions only.
-use Rattle.std.specs.Prelude.{ℕ, ◌≡◌, Bool, true, not, ◌&&◌, ◌||◌, List, [], ◌∷◌, eqb, pos, get_or, Float}
+use Rattle.std.specs.Prelude.{ℕ, ◌≡◌, Bool, true, not, ◌&&◌, ◌||◌, List, [], ◌∷◌, eqb, pos, get_or, Float, Option, Some, None}
 use Rattle.std.specs.Float.{binary64}
 use Rattle.std.specs.Float.Ieee.{le, of_int}
 use Rattle.sequences.specs.Pick.{pick}
 use Rattle.floats.specs.Names.{f64, div64}
 use Rattle.pool.specs.declared.Particle.{Particle}
-use Rattle.pool.specs.declared.Retired.{Retired}
-use Rattle.pool.specs.declared.Retired.TheVariants.{Not, At}
 use Rattle.pool.specs.Pool.{free_particle}
 use Rattle.state.specs.declared.Engine.{Engine}
 use Rattle.births.specs.Birth.{chosen_for, newborn_for}
@@ -34,7 +32,7 @@ pub record Life : Type 0 where
   pub birth : ℕ
   pub lifetime : Float
   pub source : ℕ
-  pub retired : Retired
+  pub retired : Option ℕ
 
 abbrev pub life_of : Particle → Life
 life_of p = record { birth = p.birth; lifetime = p.lifetime; source = p.source; retired = p.retirement }
@@ -51,18 +49,18 @@ abbrev pub age : Engine → Life → Float
 age e l = seconds_since e l.birth
 
 -- retirement: (sample - retired at) as f64 / rate / 0.02
-abbrev pub faded : Engine → Retired → Float
-faded e Not = f64 0
-faded e (At since) = div64 (seconds_since e since) (f64 0x3f947ae147ae147b)
+abbrev pub faded : Engine → Option ℕ → Float
+faded e None = f64 0
+faded e (Some since) = div64 (seconds_since e since) (f64 0x3f947ae147ae147b)
 
 -- age >= lifetime or retirement >= 1.0
 unfoldable pub due : Engine → Life → Bool
 due e l = le l.lifetime (age e l) || le (f64 0x3ff0000000000000) (faded e l.retired)
 
 -- the first retirement stands
-abbrev pub first_retired : Retired → ℕ → Retired
-first_retired Not now = At now
-first_retired (At since) now = At since
+abbrev pub first_retired : Option ℕ → ℕ → Option ℕ
+first_retired None now = Some now
+first_retired (Some since) now = Some since
 
 abbrev pub retired_at : ℕ → Life → Life
 retired_at now l = record { birth = l.birth; lifetime = l.lifetime; source = 256; retired = first_retired l.retired now }

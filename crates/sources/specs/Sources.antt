@@ -6,12 +6,9 @@ use Rattle.sequences.specs.Pick.{pick}
 use Rattle.floats.specs.Names.{f32}
 use Rattle.sources.specs.declared.Source.{Source}
 
--- MAX_SOURCES; as a slot's number it stands for the Rust's `None`
+-- MAX_SOURCES
 abbrev pub max_sources : ℕ
 max_sources = 256
-
-abbrev pub no_slot : ℕ
-no_slot = 256
 
 -- Source::default()
 abbrev pub no_source : Source

@@ -11,9 +11,6 @@ pub use choice::choose;
 // A slot's number is below this.
 pub const MAX_SOURCES: usize = 256;
 
-// Stands for no source, where a slot's number could stand.
-pub const NO_SOURCE: usize = 256;
-
 #[derive(Clone, Copy)]
 pub struct Source {
     pub frequency_hz: f32,

@@ -67,7 +67,7 @@ pub fn from_prepared(prepared: Prepared) -> Engine
     let next = Next {
         opportunity: 0,
         immediate_index: 0,
-        last_source: sources::NO_SOURCE,
+        last_source: None,
         note_input_present: false,
     };
     let tally = Tally {
