@@ -1,5 +1,5 @@
 -- The calls that change settings, the note input and the place in the film, line by line as the Rust has them; refusals as 01 adds them. Definitions only.
-use Rattle.std.specs.Prelude.{ℕ, Bool, true, false, not, List, [], ◌∷◌, map, ◌==◌, slice_index_or, Float}
+use Rattle.std.specs.Prelude.{ℕ, Bool, true, false, not, List, [], ◌∷◌, map, ◌==◌, slice_index_or, Float, None}
 use Rattle.std.specs.Float.{binary64}
 use Rattle.std.specs.Float.Ieee.{to_unsigned, le, eq}
 use Rattle.std.specs.Float.Ieee.Scale.{finite}
@@ -16,7 +16,7 @@ use Rattle.settings.specs.declared.Shape.{Shape}
 use Rattle.settings.specs.declared.Shape.TheVariants.{Sprinkle, Cloud}
 use Rattle.settings.specs.Settings.{is_sprinkle, checked_of}
 use Rattle.settings.specs.Mending.{mended_of}
-use Rattle.sources.specs.Sources.{same_flag, no_slot}
+use Rattle.sources.specs.Sources.{same_flag}
 use Rattle.timing.specs.declared.SprinkleStream.{SprinkleStream}
 use Rattle.timing.specs.Streams.{prepared_stream, aligned_all, reference_of}
 use Rattle.state.specs.declared.Clock.{Clock}
@@ -120,7 +120,7 @@ sought_next e k =
     record {
       opportunity = sought_opportunity k.phase (reference_now k);
       immediate_index = 0;
-      last_source = no_slot;
+      last_source = None;
       note_input_present = e.next.note_input_present;
     }
 

@@ -219,7 +219,7 @@ pub fn seek(engine: Engine, cycles: f64) -> Engine
     let next = Next {
         opportunity: sought_opportunity(phase, phase + phase_offset),
         immediate_index: 0,
-        last_source: sources::NO_SOURCE,
+        last_source: None,
         note_input_present: engine.next.note_input_present,
     };
     let mut out = retired;

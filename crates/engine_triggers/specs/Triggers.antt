@@ -1,5 +1,5 @@
 -- The triggers, line by line as the Rust has them, with the answers that 01 adds. Definitions only.
-use Rattle.std.specs.Prelude.{ℕ, ◌^◌, Bool, false, ◌==◌, bit_xor, nat_lt, slice_index_or}
+use Rattle.std.specs.Prelude.{ℕ, ◌^◌, Bool, false, ◌==◌, bit_xor, nat_lt, slice_index_or, Some}
 use Rattle.floats.specs.Word.{grown}
 use Rattle.sequences.specs.Pick.{pick}
 use Rattle.refusals.specs.declared.Refusal.TheVariants.{Slot}
@@ -51,7 +51,7 @@ outcome_of e out = pick (out.tally.dropped == e.tally.dropped) (triggered_with B
 unfoldable pub triggered_by : Engine → ℕ → ℕ → Triggered
 triggered_by e slot index =
     pick (nat_lt slot max_sources)
-    (pick (is_permitted e slot) (outcome_of e (born_of e (bit_xor index (2 ^ 63)) slot)) (triggered_with NotEligible e))
+    (pick (is_permitted e slot) (outcome_of e (born_of e (bit_xor index (2 ^ 63)) (Some slot))) (triggered_with NotEligible e))
     (triggered_with (Refused Slot) e)
 
 -- let index = self.reserve_trigger(); self.trigger_reserved(slot, index);

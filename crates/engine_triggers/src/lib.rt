@@ -81,15 +81,12 @@ fn fire(engine: Engine, slot: usize, index: u64, after: u64) -> Triggered
         let source = out.sources[slot];
         outcome = Outcome::NotEligible;
         if permitted(config, source) {
-            let arrival = births::birth(out, index ^ 9223372036854775808, slot);
-            let particle = arrival.particle;
-            let tally = arrival.tally;
-            let place = arrival.place;
-            outcome = became(out.tally.dropped, tally.dropped);
+            let arrival = births::birth(out, index ^ 9223372036854775808, Some(slot));
+            outcome = became(out.tally.dropped, arrival.tally.dropped);
             out.next.last_source = arrival.slot;
-            out.tally = tally;
-            if place < pool::MAX_PARTICLES {
-                out.particles[place] = particle;
+            out.tally = arrival.tally;
+            if let Some(place) = arrival.place {
+                out.particles[place] = arrival.particle;
             }
         }
     }

@@ -8,7 +8,6 @@ use Rattle.pool.specs.declared.Particle.{Particle}
 use Rattle.settings.specs.declared.Config.{Config}
 use Rattle.settings.specs.ByNumber.{shape_number, direction_number}
 use Rattle.sources.specs.declared.Source.{Source}
-use Rattle.sources.specs.Sources.{no_slot}
 use Rattle.state.specs.declared.Engine.{Engine}
 use Rattle.state.specs.declared.Prepared.{Prepared}
 use Rattle.timing.specs.declared.SprinkleStream.{SprinkleStream}
@@ -16,8 +15,9 @@ use Rattle.timing.specs.declared.SprinkleStream.{SprinkleStream}
 abbrev pub none_word : ℕ
 none_word = 18446744073709551615
 
-unfoldable pub slot_of : ℕ → ℕ
-slot_of n = pick (eqb n no_slot) none_word n
+abbrev pub slot_of : Option ℕ → ℕ
+slot_of None = none_word
+slot_of (Some n) = n
 
 abbrev pub retired_word : Option ℕ → ℕ
 retired_word None = none_word

@@ -9,7 +9,7 @@ ghost use Rattle.oracle_replay.specs.Numbers.{slot_of, retired_word, counts_of, 
 
 use pool::Particle;
 use settings::{Config, Direction, Shape};
-use sources::{NO_SOURCE, Source};
+use sources::Source;
 use state::{Engine, Prepared};
 use timing::SprinkleStream;
 
@@ -21,13 +21,13 @@ fn flag(b: bool) -> u64
     big_endian::flag(b) as u64
 }
 
-fn slot(n: usize) -> u64
+fn slot(n: Option<usize>) -> u64
     ensures { result ≡ slot_of n }
 {
-    if n == NO_SOURCE {
-        return NONE;
+    match n {
+        None => NONE,
+        Some(slot) => slot as u64,
     }
-    n as u64
 }
 
 fn retired(r: Option<u64>) -> u64

@@ -15,6 +15,7 @@ use Rattle.sequences.specs.Pick.{pick, picked, passed, by-case}
 use Rattle.floats.specs.Names.{f64}
 use Rattle.pool.specs.declared.Particle.{Particle}
 use Rattle.std.specs.Prelude.{Option, Some, None}
+use Rattle.std.specs.Option.{option_eq}
 use Rattle.pool.specs.Pool.{free_particle, first_retirement, retired_of, retire_one, retire_bound_one, retuned_of, retune_one}
 use Rattle.pool.specs.Vacancies.{free_place}
 use Rattle.pool.proofs.Lowest.{lowest-free, held_below}
@@ -64,7 +65,7 @@ first-is (Some since) now = refl
 
 retired_life : (now : ℕ) (p : Particle) → retired_at now (life_of p) ≡ life_of (retired_of now p)
 unfolding retired_of
-retired_life now p = ap (λ (r : Option ℕ). record { birth = p.birth; lifetime = p.lifetime; source = 256; retired = r }) (first-is p.retirement now)
+retired_life now p = ap (λ (r : Option ℕ). record { birth = p.birth; lifetime = p.lifetime; source = None; retired = r }) (first-is p.retirement now)
 
 retired-told : (now : ℕ) (p : Particle) → p.active ≡ true → living (retired_at now (life_of p)) ≡ fate_of (retired_of now p)
 unfolding retired_of
@@ -91,8 +92,8 @@ unfolding told sweep_one retire_one retire_bound_one retune_one
 touched_told e (frame seconds) p h =
     swept_told p h (due e (life_of p)) ∙ ap (λ (b : Bool). fate_of (pick b free_particle p)) (due-is e p) ∙ ap fate_of (picked p.active _ p h)
 touched_told e retire p h = retired-told e.clock.sample p h ∙ ap fate_of (picked p.active _ p h)
-touched_told e (retire_bound slot) p h = bound-told e.clock.sample p h (eqb p.source slot) ∙ ap fate_of (picked p.active _ p h)
-touched_told e (retune slot hz) p h = retuned_told hz p h (eqb p.source slot) ∙ ap fate_of (picked p.active _ p h)
+touched_told e (retire_bound slot) p h = bound-told e.clock.sample p h (option_eq eqb p.source (Some slot)) ∙ ap fate_of (picked p.active _ p h)
+touched_told e (retune slot hz) p h = retuned_told hz p h (option_eq eqb p.source (Some slot)) ∙ ap fate_of (picked p.active _ p h)
 touched_told e (birth index own) p h = keep p h
 touched_told e (source slot s) p h = keep p h
 touched_told e (streams ss) p h = keep p h
@@ -120,23 +121,19 @@ untouched e (settings c) p h = refl
 pub lowest-is : (e : Engine) → free_place e.particles < length e.particles → Lowest e (free_place e.particles)
 lowest-is e h = (lowest-free e.particles h, held_below e.particles)
 
-pub barred-is : (e : Engine) (index own : ℕ) → not (is_barred (chosen_for e index own) e.next.note_input_present) ≡ permitted e index own
-unfolding is_barred pick
-barred-is e index own = go (eqb (chosen_for e index own) 256)
-  where
-    go : (b : Bool) → not (pick b e.next.note_input_present false) ≡ not (b && e.next.note_input_present)
-    go true = refl
-    go false = refl
+pub barred-is : (e : Engine) (index : ℕ) (own : Option ℕ) → not (is_barred (chosen_for e index own) e.next.note_input_present) ≡ permitted e index own
+unfolding is_barred
+barred-is e index own = refl
 
 -- ---- a birth
 -- it took place i, and left the engine x
-pub record Taking (e : Engine) (index own : ℕ) (i : ℕ) (x : Engine) : Type 0 where
+pub record Taking (e : Engine) (index : ℕ) (own : Option ℕ) (i : ℕ) (x : Engine) : Type 0 where
   pub low : Lowest e i
   pub allowed : permitted e index own ≡ true
   pub inside : e.tally.attempts ≡ 64 → ⊥
   pub now_is : place x i ≡ newborn e index own
 
-module _ (e : Engine) (index own i : ℕ) where
+module _ (e : Engine) (index : ℕ) (own : Option ℕ) (i : ℕ) where
   abbrev Result : Engine → Type 0
   Result x = (place x i ≡ place e i) ⊎ Taking e index own i x
 
@@ -180,7 +177,7 @@ module _ (e : Engine) (index own i : ℕ) where
 -- a birth among the acts took place i
 pub record Newly (e : Engine) (a : Act) (i : ℕ) : Type 0 where
   pub index : ℕ
-  pub own : ℕ
+  pub own : Option ℕ
   pub is : a ≡ birth index own
   pub taking : Taking e index own i (act e a)
 

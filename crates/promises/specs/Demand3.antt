@@ -1,6 +1,6 @@
 -- DEMAND 3, as it is promised: of every beginning, every list of typed calls, and every moment of it, between two births of one sample too; and once more over calls alone, as the demand is worded.
 -- Its terms (`place`, `Held`, `Life`, `due`, `told`, `story`) are those of Life.antt, runs those of Runs.antt; an act is a part of a call.
-use Rattle.std.specs.Prelude.{ℕ, ◌-◌, ◌<◌, ◌≡◌, ◌↔◌, true, false, List, [], ◌∷◌, ◌++◌, T, Float, Some}
+use Rattle.std.specs.Prelude.{ℕ, ◌-◌, ◌<◌, ◌≡◌, ◌↔◌, true, false, List, [], ◌∷◌, ◌++◌, T, Float, Option, Some}
 use Rattle.std.specs.Float.Ieee.{le}
 use Rattle.floats.specs.Names.{f64}
 use Rattle.pool.specs.Pool.{free_particle}
@@ -20,7 +20,7 @@ Lowest e i = ((place e i).active ≡ false) × ((j : ℕ) → j < i → Held e j
 pub record Born (e : Engine) (acts : List Act) (i : ℕ) (l : Life) : Type 0 where
   pub before : List Act
   pub index : ℕ
-  pub own : ℕ
+  pub own : Option ℕ
   pub after : List Act
   pub split : acts ≡ before ++ birth index own ∷ after
   pub lowest : Lowest (perform e before) i
@@ -70,9 +70,9 @@ pub record AtMoment (start : Engine) (acts : List Act) (e : Engine) : Type 0 whe
   -- no call but an accepted frame frees
   pub only : (c : Call) (l : Life) → story e (acts_of e c) l ≡ freed → DueFrame e c l
   -- a permitted birth inside the attempt limit is dropped exactly when all 64 places are held, and otherwise has the lowest free place
-  pub dropped : (index own : ℕ) → e.tally.attempts < 64 → permitted e index own ≡ true
+  pub dropped : (index : ℕ) (own : Option ℕ) → e.tally.attempts < 64 → permitted e index own ≡ true
       → ((act e (birth index own)).tally.dropped ≡ grown e.tally.dropped) ↔ ((i : ℕ) → i < 64 → Held e i)
-  pub placed : (index own : ℕ) → e.tally.attempts < 64 → permitted e index own ≡ true → (i : ℕ) → i < 64 → Lowest e i
+  pub placed : (index : ℕ) (own : Option ℕ) → e.tally.attempts < 64 → permitted e index own ≡ true → (i : ℕ) → i < 64 → Lowest e i
       → place (act e (birth index own)) i ≡ newborn e index own
 
 -- ---- over calls

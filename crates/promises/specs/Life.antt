@@ -1,5 +1,6 @@
 -- The terms of demand 3: what is told of one particle, act by act, and what it means to hold a place. Definitions only.
-use Rattle.std.specs.Prelude.{ℕ, ◌≡◌, Bool, true, not, ◌&&◌, ◌||◌, List, [], ◌∷◌, eqb, pos, get_or, Float, Option, Some, None}
+use Rattle.std.specs.Prelude.{ℕ, ◌≡◌, Bool, true, not, ◌&&◌, ◌||◌, List, [], ◌∷◌, eqb, pos, get_or, Float, Option, Some, None, is_none}
+use Rattle.std.specs.Option.{option_eq}
 use Rattle.std.specs.Float.{binary64}
 use Rattle.std.specs.Float.Ieee.{le, of_int}
 use Rattle.sequences.specs.Pick.{pick}
@@ -20,18 +21,18 @@ Held e i = (place e i).active ≡ true
 
 -- ---- a birth
 -- it has no source while note input is present: not permitted
-abbrev pub permitted : Engine → ℕ → ℕ → Bool
-permitted e index own = not (eqb (chosen_for e index own) 256 && e.next.note_input_present)
+abbrev pub permitted : Engine → ℕ → Option ℕ → Bool
+permitted e index own = not (is_none (chosen_for e index own) && e.next.note_input_present)
 
-abbrev pub newborn : Engine → ℕ → ℕ → Particle
+abbrev pub newborn : Engine → ℕ → Option ℕ → Particle
 newborn e index own = newborn_for e index (chosen_for e index own)
 
 -- ---- a life
--- Of one particle: the sample of its birth, its lifetime, the slot whose note retires it (256 for none), and its first retirement.
+-- Of one particle: the sample of its birth, its lifetime, the slot whose note retires it (`None` for none), and its first retirement.
 pub record Life : Type 0 where
   pub birth : ℕ
   pub lifetime : Float
-  pub source : ℕ
+  pub source : Option ℕ
   pub retired : Option ℕ
 
 abbrev pub life_of : Particle → Life
@@ -63,13 +64,13 @@ first_retired None now = Some now
 first_retired (Some since) now = Some since
 
 abbrev pub retired_at : ℕ → Life → Life
-retired_at now l = record { birth = l.birth; lifetime = l.lifetime; source = 256; retired = first_retired l.retired now }
+retired_at now l = record { birth = l.birth; lifetime = l.lifetime; source = None; retired = first_retired l.retired now }
 
 -- One act: an accepted frame frees a particle that is due, a retirement marks it, and no other act does anything to it.
 unfoldable pub told : Engine → Act → Life → Fate
 told e (frame seconds) l = pick (due e l) freed (living l)
 told e retire l = living (retired_at e.clock.sample l)
-told e (retire_bound slot) l = living (pick (eqb l.source slot) (retired_at e.clock.sample l) l)
+told e (retire_bound slot) l = living (pick (option_eq eqb l.source (Some slot)) (retired_at e.clock.sample l) l)
 told e (birth index own) l = living l
 told e (retune slot hz) l = living l
 told e (source slot s) l = living l
