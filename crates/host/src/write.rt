@@ -6,7 +6,7 @@ ghost use Rattle.refusals.specs.Numbers.{answer_of};
 ghost use Rattle.host.specs.Write.{config_from, written_at};
 
 use script_writer::Written;
-use settings::Config;
+use settings::{Config, Direction, Shape};
 
 // The count after a write goes behind `at`; the answer, by its number, comes back.
 fn told(written: Written, at: &mut u64) -> u32
@@ -47,8 +47,8 @@ pub extern "C" fn rk_write_configure(
 {
     let config = Config {
         enabled,
-        shape: settings::shape_from(shape as u32),
-        direction: settings::direction_from(direction as u32),
+        shape: Shape::from(shape as u32),
+        direction: Direction::from(direction as u32),
         rate_hz,
         size_octaves,
         phase,

@@ -42,13 +42,13 @@ fn retired(r: Option<u64>) -> u64
 fn shape(s: Shape) -> u64
     ensures { result ≡ shape_number s }
 {
-    settings::shape_number(s) as u64
+    u8::from(s) as u64
 }
 
 fn direction(d: Direction) -> u64
     ensures { result ≡ direction_number d }
 {
-    settings::direction_number(d) as u64
+    u8::from(d) as u64
 }
 
 fn single(x: f32) -> u64

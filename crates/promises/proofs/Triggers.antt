@@ -1,7 +1,7 @@
 -- What a trigger answers: the tests of its birth, in order, and the place that the new particle has.
 use Prim.Native.Nat.{ℕ, ◌<◌, ◌≤◌, ◌^◌}
 use native.Mathlib.Omega.{arith}
-use mathlib.Core.Path.{◌≡◌, sym, ap, ◌∙◌, subst}
+use mathlib.Core.Path.{◌≡◌, refl, sym, ap, ◌∙◌, subst}
 use mathlib.Core.Bool.{true, false, ◌||◌, true≢false}
 use denote.Floats.{passes}
 use borrow.Author.Tests.{ne_eqb, eq-eqb, ltb-true, ltb-false}

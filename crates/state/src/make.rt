@@ -3,7 +3,7 @@ ghost use Rattle.std.specs.Prelude.{◌≡◌};
 ghost use Rattle.state.specs.Make.{partial_logs_of, weights_of, alpha_of, prepared_of, new_on};
 
 use crate::{Clock, Engine, Next, Prepared, Tally};
-use settings::MAX_PARTIALS;
+use settings::{Config, MAX_PARTIALS};
 
 fn partial_logs() -> [f32; MAX_PARTIALS]
     ensures { result ≡ partial_logs_of }
@@ -56,7 +56,7 @@ pub fn from_prepared(prepared: Prepared) -> Engine
         timing::new_stream(1, false),
         timing::new_stream(2, false),
     ];
-    let config = settings::default_config();
+    let config = Config::default();
     let free = pool::free_particle();
     let none = sources::no_source();
     let clock = Clock {
