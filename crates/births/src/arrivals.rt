@@ -72,7 +72,7 @@ fn choose(
 pub fn turned_away(slot: Option<usize>, tally: Tally) -> Arrival
     ensures { result ≡ turned_away slot tally }
 {
-    let particle = pool::free_particle();
+    let particle = Particle::default();
     Arrival {
         particle,
         tally,

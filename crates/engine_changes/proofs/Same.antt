@@ -29,10 +29,3 @@ entered Sprinkle Sprinkle true on = refl
 entered Sprinkle Sprinkle false on = refl
 entered Cloud Sprinkle was on = refl
 entered old Cloud was on = refl
-
-pub flags : (a b : Bool) → same_flag a b ≡ beq a b
-unfolding pick
-flags true true = refl
-flags true false = refl
-flags false true = refl
-flags false false = refl

@@ -46,16 +46,7 @@ pub fn reserve_trigger(engine: Engine) -> Reserved
 fn permitted(config: Config, source: Source) -> bool
     ensures { result ≡ permits config source }
 {
-    let shape = config.shape;
-    if config.enabled {
-        if settings::is_sprinkle(shape) {
-            sources::eligible(source)
-        } else {
-            false
-        }
-    } else {
-        false
-    }
+    config.enabled && settings::is_sprinkle(config.shape) && sources::eligible(source)
 }
 
 // A birth that was dropped has made `dropped` grow.

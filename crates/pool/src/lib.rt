@@ -30,22 +30,24 @@ pub struct Particle {
     pub retirement: Option<u64>,
 }
 
-pub fn free_particle() -> Particle
-    ensures { result ≡ free_particle }
-{
-    Particle {
-        active: false,
-        source: None,
-        birth: 0,
-        lifetime: 0.0,
-        frequency_hz: 0.0,
-        octave: 0.0,
-        width: 0.0,
-        strength: 0.0,
-        attack: 0.0,
-        decay_power: 0,
-        partials: [0u8; 3],
-        retirement: None,
+impl Default for Particle {
+    ghost is_default = { λ x. x ≡ free_particle };
+
+    fn default() -> Particle {
+        Particle {
+            active: false,
+            source: None,
+            birth: 0,
+            lifetime: 0.0,
+            frequency_hz: 0.0,
+            octave: 0.0,
+            width: 0.0,
+            strength: 0.0,
+            attack: 0.0,
+            decay_power: 0,
+            partials: [0u8; 3],
+            retirement: None,
+        }
     }
 }
 

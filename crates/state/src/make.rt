@@ -3,7 +3,9 @@ ghost use Rattle.std.specs.Prelude.{◌≡◌};
 ghost use Rattle.state.specs.Make.{partial_logs_of, weights_of, alpha_of, prepared_of, new_on};
 
 use crate::{Clock, Engine, Next, Prepared, Tally};
+use pool::Particle;
 use settings::{Config, MAX_PARTIALS};
+use sources::Source;
 
 fn partial_logs() -> [f32; MAX_PARTIALS]
     ensures { result ≡ partial_logs_of }
@@ -57,8 +59,8 @@ pub fn from_prepared(prepared: Prepared) -> Engine
         timing::new_stream(2, false),
     ];
     let config = Config::default();
-    let free = pool::free_particle();
-    let none = sources::no_source();
+    let free = Particle::default();
+    let none = Source::default();
     let clock = Clock {
         sample: 0,
         phase: 0.0,

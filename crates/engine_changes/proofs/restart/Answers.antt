@@ -2,7 +2,7 @@
 use Rattle.std.proofs.Common.{sym, refl, ap, ◌∙◌}
 use Rattle.sequences.specs.Pick.{took, skipped}
 use Rattle.engine_changes.specs.Changes.{restarted}
-use Rattle.engine_changes.proofs.Same.{flags}
+use Rattle.sources.proofs.Flags.{flags}
 use Rattle.state.specs.State.{with_streams}
 use Rattle.engine_changes.proofs.restart.Goals as goal
 
