@@ -1,5 +1,5 @@
 -- A new particle, line by line as the Rust's `birth` makes it once a place is free. Definitions only.
-use Rattle.std.specs.Prelude.{ℕ, true, List, [], ◌∷◌, Float}
+use Rattle.std.specs.Prelude.{ℕ, true, List, [], ◌∷◌, Float, None}
 use Rattle.floats.specs.Names.{f32, add32, sub32, mul32, div32}
 use Rattle.draws.specs.Draws.{random_of}
 use Rattle.elementary.specs.Log2.{log2_of}
@@ -9,7 +9,6 @@ use Rattle.pitch.specs.Octave.{register_of}
 use Rattle.pitch.specs.Partials.{partials_of}
 use Rattle.pitch.specs.Register as register
 use Rattle.pool.specs.declared.Particle.{Particle}
-use Rattle.pool.specs.declared.Retired.TheVariants.{Not}
 use Rattle.settings.specs.declared.Config.{Config}
 use Rattle.settings.specs.declared.Direction.{Direction}
 use Rattle.settings.specs.declared.Shape.{Shape}
@@ -76,5 +75,5 @@ newborn_of index voice config rate sample weights =
       attack = contour.attack;
       decay_power = power_by shape;
       partials = partials_by shape index weights config.partials hz register.octave (max_hz_of rate);
-      retirement = Not;
+      retirement = None;
     }

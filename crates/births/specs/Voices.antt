@@ -1,8 +1,7 @@
 -- What a birth sounds, line by line as the Rust's `birth` finds it. Definitions only.
-use Rattle.std.specs.Prelude.{ℕ, Float}
+use Rattle.std.specs.Prelude.{ℕ, Float, Some, None}
 use Rattle.std.specs.Float.{binary64}
 use Rattle.std.specs.Float.Ieee.{to_unsigned}
-use Rattle.sources.specs.Sources.{no_slot}
 use Rattle.pitch.specs.Highest.{max_hz_of}
 use Rattle.floats.specs.Names.{f32, f64, mul32, div64}
 use Rattle.floats.specs.Choose.{clamp}
@@ -29,9 +28,9 @@ free_hz_of Cloud index phase maxHz = frequency_of index maxHz
 -- without a source: its own frequency, and strength 1.0
 unfoldable pub free_voice_of : Shape → ℕ → Float → Float → Voice
 free_voice_of shape index phase rate =
-    record { slot = no_slot; frequency_hz = free_hz_of shape index phase (max_hz_of rate); strength = f32 0x3f800000 }
+    record { slot = None; frequency_hz = free_hz_of shape index phase (max_hz_of rate); strength = f32 0x3f800000 }
 
 -- |s| self.sources[s].frequency_hz, |s| self.sources[s].strength.clamp(0.0, 1.0)
 unfoldable pub source_voice_of : ℕ → Source → Voice
 source_voice_of slot s =
-    record { slot = slot; frequency_hz = s.frequency_hz; strength = clamp s.strength (f32 0) (f32 0x3f800000) }
+    record { slot = Some slot; frequency_hz = s.frequency_hz; strength = clamp s.strength (f32 0) (f32 0x3f800000) }

@@ -1,13 +1,13 @@
 // One birth: its source, the attempt, the place. It answers what it stores, so that no engine is moved.
-ghost use Rattle.std.specs.Prelude.{◌≡◌};
-ghost use Rattle.births.specs.Birth.{tried_one, is_barred};
-ghost use Rattle.births.specs.Arrival.{voice_by, chosen_by, turned_away, arrival_of};
+ghost use Rattle.std.specs.Prelude.{◌≡◌, ◌<◌, IfSome};
+ghost use Rattle.births.specs.Birth.{voice_by, chosen_by, tried_one, is_barred};
+ghost use Rattle.births.specs.Arrival.{turned_away, arrival_of};
 
 use crate::voices;
 use crate::voices::Voice;
 use pool::Particle;
 use settings::Shape;
-use sources::{MAX_SOURCES, NO_SOURCE, Source};
+use sources::{MAX_SOURCES, Source};
 use state::{Engine, Tally};
 
 pub const MAX_BIRTH_ATTEMPTS: u64 = 64;
@@ -17,8 +17,8 @@ pub const MAX_BIRTH_ATTEMPTS: u64 = 64;
 pub struct Arrival {
     pub particle: Particle,
     pub tally: Tally,
-    pub slot: usize,
-    pub place: usize,
+    pub slot: Option<usize>,
+    pub place: Option<usize>,
 }
 
 fn try_one(tally: Tally) -> Tally
@@ -36,56 +36,57 @@ fn voice(
     phase: f64,
     sample_rate: f64,
     index: u64,
-    slot: usize,
+    slot: Option<usize>,
 ) -> Voice
     ensures { result ≡ voice_by sources shape phase sample_rate index slot }
 {
-    if slot < MAX_SOURCES {
-        let source = sources[slot];
-        return voices::source_voice(slot, source);
+    match slot {
+        Some(slot) if slot < MAX_SOURCES => voices::source_voice(slot, sources[slot]),
+        _ => voices::free_voice(shape, index, phase, sample_rate),
     }
-    voices::free_voice(shape, index, phase, sample_rate)
 }
 
 // No source was found while notes are held.
-fn barred(slot: usize, note_input_present: bool) -> bool
+fn barred(slot: Option<usize>, note_input_present: bool) -> bool
     ensures { result ≡ is_barred slot note_input_present }
 {
-    if slot == NO_SOURCE {
-        note_input_present
-    } else {
-        false
-    }
+    slot.is_none() && note_input_present
 }
 
 // A trigger's own slot, or one of the eligible sources by the draw.
-fn choose(sources: [Source; MAX_SOURCES], last: usize, index: u64, own: usize) -> usize
+fn choose(
+    sources: [Source; MAX_SOURCES],
+    last: Option<usize>,
+    index: u64,
+    own: Option<usize>,
+) -> Option<usize>
     ensures { result ≡ chosen_by sources last index own }
 {
-    if own < MAX_SOURCES {
-        return own;
+    match own {
+        Some(_) => own,
+        None => sources::choose(sources, last, draws::random(index, draws::SOURCE)),
     }
-    sources::choose(sources, last, draws::random(index, draws::SOURCE))
 }
 
 // A birth that takes no place.
-pub fn turned_away(slot: usize, tally: Tally) -> Arrival
+pub fn turned_away(slot: Option<usize>, tally: Tally) -> Arrival
     ensures { result ≡ turned_away slot tally }
 {
-    let particle = pool::free_particle();
+    let particle = Particle::default();
     Arrival {
         particle,
         tally,
         slot,
-        place: pool::NO_PLACE,
+        place: None,
     }
 }
 
 // The lowest free place is taken; where there is none, the birth is dropped. The choice is among what
 // is to be stored whatever else comes of it: a birth that is turned away leaves the sequence of sources
 // as it would have been.
-pub fn birth(engine: Engine, index: u64, own: usize) -> Arrival
-    ensures { result ≡ arrival_of engine index own }
+pub fn birth(engine: Engine, index: u64, own: Option<usize>) -> Arrival
+    ensures is { result ≡ arrival_of engine index own }
+    ensures placed { IfSome result.place (λ i. i < 64) }
 {
     let sources = engine.sources;
     let tally = engine.tally;
@@ -98,34 +99,33 @@ pub fn birth(engine: Engine, index: u64, own: usize) -> Arrival
         return turned_away(slot, tried);
     }
     let particles = engine.particles;
-    let place = pool::free_place(particles);
-    if place < pool::MAX_PARTICLES {
-        let config = engine.config;
-        let shape = config.shape;
-        let weights = engine.partial_weights;
-        let voice = voice(
-            sources,
-            shape,
-            engine.clock.phase,
-            engine.prepared.sample_rate,
-            index,
-            slot,
-        );
-        let particle = crate::newborn(
-            index,
-            voice,
-            config,
-            engine.prepared.sample_rate,
-            engine.clock.sample,
-            weights,
-        );
-        let tally = state::bear_one(tried, index, engine.clock.sample, particle);
-        return Arrival {
-            particle,
-            tally,
-            slot,
-            place,
-        };
+    let Some(place) = pool::free_place(particles) else {
+        return turned_away(slot, state::drop_one(tried));
+    };
+    let config = engine.config;
+    let shape = config.shape;
+    let weights = engine.partial_weights;
+    let voice = voice(
+        sources,
+        shape,
+        engine.clock.phase,
+        engine.prepared.sample_rate,
+        index,
+        slot,
+    );
+    let particle = crate::newborn(
+        index,
+        voice,
+        config,
+        engine.prepared.sample_rate,
+        engine.clock.sample,
+        weights,
+    );
+    let tally = state::bear_one(tried, index, engine.clock.sample, particle);
+    Arrival {
+        particle,
+        tally,
+        slot,
+        place: Some(place),
     }
-    turned_away(slot, state::drop_one(tried))
 }

@@ -6,7 +6,7 @@ ghost use Rattle.std.specs.Prelude.{◌≡◌};
 ghost use Rattle.births.specs.Births.{register_by, width_of, opening_of, strength_of, ratio_of, partials_by, power_by, newborn_of};
 
 use pitch::Register;
-use pool::{Particle, Retired};
+use pool::Particle;
 use settings::{Config, Direction, MAX_PARTIALS, Shape};
 use voices::Voice;
 
@@ -140,6 +140,6 @@ pub fn newborn(
         attack: contour.attack,
         decay_power: decay_power(shape),
         partials,
-        retirement: Retired::Not,
+        retirement: None,
     }
 }

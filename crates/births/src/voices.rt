@@ -8,10 +8,10 @@ use sources::Source;
 // Free Sprinkle roots span three octaves; octave choices and partials share each root.
 pub const FREE_ROOT_MIN_HZ: f32 = 200.0;
 
-// What a birth sounds: the slot it has chosen (`NO_SOURCE` for none), and the pitch and strength that it found.
+// What a birth sounds: the slot it has chosen (`None` for none), and the pitch and strength that it found.
 #[derive(Clone, Copy)]
 pub struct Voice {
-    pub slot: usize,
+    pub slot: Option<usize>,
     pub frequency_hz: f32,
     pub strength: f32,
 }
@@ -39,7 +39,7 @@ pub fn free_voice(shape: Shape, index: u64, phase: f64, sample_rate: f64) -> Voi
 {
     let frequency_hz = free_frequency(shape, index, phase, pitch::max_hz(sample_rate));
     Voice {
-        slot: sources::NO_SOURCE,
+        slot: None,
         frequency_hz,
         strength: 1.0,
     }
@@ -49,7 +49,7 @@ pub fn source_voice(slot: usize, source: Source) -> Voice
     ensures { result ≡ source_voice_of slot source }
 {
     Voice {
-        slot,
+        slot: Some(slot),
         frequency_hz: source.frequency_hz,
         strength: floats::clamp32(source.strength, 0.0, 1.0),
     }

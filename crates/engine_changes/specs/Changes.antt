@@ -15,7 +15,7 @@ use Rattle.settings.specs.declared.Shape.{Shape}
 use Rattle.settings.specs.declared.Shape.TheVariants.{Sprinkle, Cloud}
 use Rattle.settings.specs.Settings.{is_sprinkle, checked_of}
 use Rattle.settings.specs.Mending.{mended_of}
-use Rattle.sources.specs.Sources.{same_flag, no_slot}
+use Rattle.sources.specs.Sources.{same_flag}
 use Rattle.timing.specs.declared.SprinkleStream.{SprinkleStream}
 use Rattle.timing.specs.Streams.{prepared_stream, aligned_all, reference_of}
 use Rattle.state.specs.declared.Clock.{Clock}
@@ -119,7 +119,7 @@ sought_next e k =
     record {
       opportunity = sought_opportunity k.phase (reference_now k);
       immediate_index = 0;
-      last_source = no_slot;
+      last_source = None;
       note_input_present = e.next.note_input_present;
     }
 

@@ -2,28 +2,12 @@
 #![tactic(auto)]
 
 ghost use Rattle.std.specs.Prelude.{◌≡◌};
-ghost use Rattle.sources.specs.Sources.{same_flag};
 ghost use Rattle.state.specs.State.{with_config};
-ghost use Rattle.engine_changes.specs.Changes.{same_shape, retired_all, aligned, reweighed, same_kind, switched, offset, enters, prepared_all, restarted, configured_to, configured_of, notes_of, sought_phase, sought_opportunity, sought_of};
+ghost use Rattle.engine_changes.specs.Changes.{retired_all, aligned, reweighed, same_kind, switched, offset, enters, prepared_all, restarted, configured_to, configured_of, notes_of, sought_phase, sought_opportunity, sought_of};
 
-use settings::{Config, Shape, is_sprinkle};
+use settings::{Config, Shape};
 use state::{Clock, Done, Engine, Next};
 use timing::{SPRINKLE_STREAMS, SprinkleStream};
-
-fn same_shape(a: Shape, b: Shape) -> bool
-    ensures { result ≡ same_shape a b }
-{
-    match a {
-        Shape::Sprinkle => is_sprinkle(b),
-        Shape::Cloud => !is_sprinkle(b),
-    }
-}
-
-fn same_flag(a: bool, b: bool) -> bool
-    ensures { result ≡ same_flag a b }
-{
-    if a { b } else { !b }
-}
 
 fn retire_all(engine: Engine) -> Engine
     ensures { result ≡ retired_all engine }
@@ -52,13 +36,7 @@ fn reweigh(engine: Engine, config: Config) -> Engine
 fn same_kind(before: Config, after: Config) -> bool
     ensures { result ≡ same_kind before after }
 {
-    let from = before.shape;
-    let to = after.shape;
-    if same_shape(from, to) {
-        same_flag(before.enabled, after.enabled)
-    } else {
-        false
-    }
+    before.shape == after.shape && before.enabled == after.enabled
 }
 
 // Another shape, or on in place of off or the other way round, retires every particle.
@@ -88,17 +66,8 @@ fn offset(engine: Engine, phase: f32) -> Engine
 fn enters_sprinkle(before: Config, after: Config) -> bool
     ensures { result ≡ enters before after }
 {
-    let from = before.shape;
-    let to = after.shape;
-    if is_sprinkle(to) {
-        if is_sprinkle(from) {
-            if before.enabled { false } else { after.enabled }
-        } else {
-            true
-        }
-    } else {
-        false
-    }
+    after.shape == Shape::Sprinkle
+        && (before.shape != after.shape || (!before.enabled && after.enabled))
 }
 
 fn prepare_streams(
@@ -135,7 +104,7 @@ fn restart(engine: Engine, before: Config) -> Engine
     if enters_sprinkle(before, after) {
         return align_streams(engine);
     }
-    if same_flag(before.sync, after.sync) {
+    if before.sync == after.sync {
         return engine;
     }
     let streams = engine.streams;
@@ -218,7 +187,7 @@ pub fn seek(engine: Engine, cycles: f64) -> Engine
     let next = Next {
         opportunity: sought_opportunity(phase, phase + phase_offset),
         immediate_index: 0,
-        last_source: sources::NO_SOURCE,
+        last_source: None,
         note_input_present: engine.next.note_input_present,
     };
     let mut out = retired;

@@ -10,18 +10,17 @@ use Rattle.sequences.specs.Pick.{either}
 use Rattle.sequences.specs.Every.{in_case}
 use Rattle.floats_laws.proofs.Rising.{nought}
 use Rattle.pool.specs.declared.Particle.{Particle}
-use Rattle.pool.specs.declared.Retired.{Retired}
-use Rattle.pool.specs.declared.Retired.TheVariants.{Not, At}
+use Rattle.std.specs.Prelude.{Option, Some, None}
 use Rattle.pool.specs.Pool.{first_retirement, retired_of, retire_one, retire_bound_one, retuned_of, retune_one}
 use Rattle.frame_laws.proofs.Windowed.{Fair}
 use Rattle.engine_laws.proofs.Sound.{Fit, FitPlace}
 
-at_of : (a b : ℕ) → At a ≡ At b → a ≡ b
-at_of a b p = ap (λ (r : Retired). first_retirement r 0) p
+at_of : (a b : ℕ) → Some a ≡ Some b → a ≡ b
+at_of a b p = ap (λ (r : Option ℕ). first_retirement r 0) p
 
-first_in : (birth now : ℕ) (r : Retired) → birth ≤ now → ((t : ℕ) → r ≡ At t → (birth ≤ t) × (t ≤ now)) → (birth ≤ first_retirement r now) × (first_retirement r now ≤ now)
-first_in birth now Not h k = (h, le_refl now)
-first_in birth now (At t) h k = k t refl
+first_in : (birth now : ℕ) (r : Option ℕ) → birth ≤ now → ((t : ℕ) → r ≡ Some t → (birth ≤ t) × (t ≤ now)) → (birth ≤ first_retirement r now) × (first_retirement r now ≤ now)
+first_in birth now None h k = (h, le_refl now)
+first_in birth now (Some t) h k = k t refl
 
 -- neither a retirement nor a new pitch that sounds makes a particle unfair
 fair_retired : (now : ℕ) (p : Particle) → Fair p → Fair (retired_of now p)
@@ -87,7 +86,7 @@ fit-retired now p f =
       retired = λ t r. subst (λ (k : ℕ). (p.birth ≤ k) × (k ≤ now)) (at_of _ t r) w;
       above = f.above;
       most = f.most;
-      slot = le_refl 256;
+      slot = tt;
       harmonics = f.harmonics;
       fair = fair_retired now p f.fair;
       octave = f.octave;

@@ -5,7 +5,7 @@ use native.Mathlib.Omega.{arith}
 use mathlib.Core.Path.{◌≡◌, refl, sym, ◌∙◌, subst}
 use mathlib.Core.Bool.{true}
 use mathlib.Core.List.{List, [], ◌∷◌, ◌++◌}
-use borrow.Author.Tests.{ltb-false, leb-true}
+use borrow.Author.Tests.{ltb-true, ltb-false, leb-true}
 use lib.Dec.{T, ltb, leb}
 use lib.Pow.{pow_pos}
 use lib.ListN.{length, length-set}
@@ -33,10 +33,10 @@ use Rattle.engine_laws.specs.Acts.{Act, birth, retire, retire_bound, retune, fra
 use Rattle.sequences.specs.Every.{every_get_or, in_case}
 use Rattle.engine_samples.proofs.Untouched.{delivered_keeps}
 use Rattle.engine_laws.proofs.Joins.{steps_count, grown_small}
-use Rattle.engine_laws.proofs.Sound.{Sound, Settled, Sounding, past_formed}
+use Rattle.engine_laws.proofs.Sound.{Sound, Settled, Slot, Sounding, past_formed}
 use Rattle.engine_laws.proofs.Kept.{held-retire-bound, held-retune-one}
 use Rattle.engine_laws.proofs.Voices.{FormedSource, pitched-sounds}
-use Rattle.engine_laws.proofs.Chosen.{none-sounding, sound_next, sound_born}
+use Rattle.engine_laws.proofs.Chosen.{sound_next, sound_born}
 use Rattle.engine_laws.proofs.Stays.{sound_streams, sound_clock, sound_config, sound_weights, sound_source, sound_mapped, sound_retired, no_source_formed, three-aligned, three-prepared, permitted-sounding}
 use Rattle.engine_laws.proofs.Frames.{sound_renewed}
 use Rattle.engine_laws.proofs.Performed.{tried, lane_done, deliver_done, weigh_done, switch-done, offset-done, advance-done, calls_are_acts}
@@ -52,7 +52,7 @@ Meant e (retune slot hz) = T (fits binary32 hz) × (T (lt nought hz) × T (finit
 Meant e (frame seconds) = T (fits binary32 seconds) × (accepted seconds ≡ true)
 Meant e (source slot s) = FormedSource s
 Meant e (streams ss) = length ss ≡ 3
-Meant e (next n) = (n.last_source ≤ 256) × (n.immediate_index < 2 ^ 64)
+Meant e (next n) = Slot n.last_source × (n.immediate_index < 2 ^ 64)
 Meant e (clock k) = (e.clock.sample ≤ k.sample) × (k.sample ≤ 2 ^ 40)
 Meant e (weights ws) = Unit {0}
 Meant e (settings c) = Settled c
@@ -104,7 +104,7 @@ then e e' xs ys q s m n =
 tried_meant : (e : Engine) (lane : ℕ) (reference : Float) → Sound e → AllMeant e (tried_acts e lane reference)
 unfolding tried_acts act
 tried_meant e lane reference s =
-    either (AllMeant e) _ _ _ tt (length-set e.streams lane _ ∙ s.lanes, either (AllMeant _) _ _ _ (either (AllMeant _) _ _ _ (none-sounding e.sources, tt) tt) tt)
+    either (AllMeant e) _ _ _ tt (length-set e.streams lane _ ∙ s.lanes, either (AllMeant _) _ _ _ (either (AllMeant _) _ _ _ (tt, tt) tt) tt)
 
 lane_meant : (e : Engine) (lane : ℕ) (reference : Float) → Sound e → AllMeant e (lane_acts e lane reference)
 unfolding lane_acts
@@ -117,7 +117,7 @@ shape_meant Sprinkle e reference s =
     let one = lane_of e 0 reference in
     then e one (lane_acts e 0 reference) _ (lane_done e 0 reference) s (lane_meant e 0 reference s)
     (λ t. then one (lane_of one 1 reference) (lane_acts one 1 reference) _ (lane_done one 1 reference) t (lane_meant one 1 reference t) (λ u. lane_meant (lane_of one 1 reference) 2 reference u))
-shape_meant Cloud e reference s = either (AllMeant e) _ _ _ ((s.last, s.reserved), either (AllMeant _) _ _ _ (none-sounding e.sources, tt) tt) tt
+shape_meant Cloud e reference s = either (AllMeant e) _ _ _ ((s.last, s.reserved), either (AllMeant _) _ _ _ (tt, tt) tt) tt
 
 deliver_meant : (e : Engine) → Sound e → AllMeant e (deliver_acts e)
 unfolding deliver_acts
@@ -165,7 +165,7 @@ checked_meant e c g s =
 trigger_meant : (e : Engine) (slot index : ℕ) → AllMeant e (trigger_acts e slot index)
 unfolding trigger_acts
 trigger_meant e slot index =
-    either (AllMeant e) _ _ _ (in_case (AllMeant e) (is_permitted e slot) _ _ (λ q. (permitted-sounding e slot q, tt)) (λ q. tt)) tt
+    in_case (AllMeant e) (ltb slot 256) _ _ (λ l. in_case (AllMeant e) (is_permitted e slot) _ _ (λ q. (permitted-sounding e slot (ltb-true _ _ l) q, tt)) (λ q. tt)) (λ l. tt)
 
 -- ---- every call
 pub calls_meant : (e : Engine) (c : Call) → Typed c → Sound e → AllMeant e (acts_of e c)
@@ -182,7 +182,7 @@ calls_meant e (release_source slot) f s =
 calls_meant e (trigger slot) f s = ((s.last, after-under _), trigger_meant (reserved_of e).engine slot e.next.immediate_index)
 calls_meant e reserve f s = ((s.last, after-under _), tt)
 calls_meant e (reserved slot index) f s = trigger_meant e slot index
-calls_meant e (seek cycles) f s = (tt, ((le_refl _, s.time), ((le_refl 256, pow_pos 64), (three-aligned _ e.config.sync, tt))))
+calls_meant e (seek cycles) f s = (tt, ((le_refl _, s.time), ((tt, pow_pos 64), (three-aligned _ e.config.sync, tt))))
 calls_meant e (advance n) f s = in_case (AllMeant e) (leb (e.clock.sample + n) (2 ^ 40)) _ _ (λ q. advance_meant n e s (leb-true _ _ q)) (λ q. tt)
 calls_meant e (take_frame bin_hz seconds) f s = in_case (AllMeant e) (accepted seconds) _ _ (λ q. ((f, q), tt)) (λ q. tt)
 

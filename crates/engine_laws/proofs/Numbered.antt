@@ -3,6 +3,7 @@ use Prim.Native.Nat.{ℕ, ◌+◌, ◌≤◌, ◌<◌}
 use native.Mathlib.Omega.{arith}
 use mathlib.Core.Path.{◌≡◌, refl, sym, ap, ◌∙◌, subst}
 use mathlib.Core.Bool.{true}
+use Rattle.std.specs.Prelude.{Option}
 use mathlib.Core.List.{List, [], ◌∷◌, map}
 use borrow.Author.Tests.{ltb-true}
 use lib.Dec.{ltb}
@@ -58,7 +59,7 @@ numbered-reset e = numbered-made e.prepared
 one_more : (held count : ℕ) → held ≡ count → count ≤ 64 → grown held ≡ count + 1
 one_more held count q h = omega arith
 
-newborn_active : (e : Engine) (index slot : ℕ) → (newborn_for e index slot).active ≡ true
+newborn_active : (e : Engine) (index : ℕ) (slot : Option ℕ) → (newborn_for e index slot).active ≡ true
 unfolding newborn_for newborn_of
 newborn_active e index slot = refl
 
@@ -76,7 +77,7 @@ module _ (e : Engine) (w : Numbered e) (p : Particle) (active : p.active ≡ tru
   number-born : grown e.tally.held ≡ active_count (set e.particles place p)
   number-born = one_more e.tally.held (active_count e.particles) w.number (let most = count_most is_held e.particles in omega (arith, w.places)) ∙ sym counted-one
 
-numbered_admitted : (e : Engine) (index slot : ℕ) → Numbered e → Numbered (admitted_of e index slot)
+numbered_admitted : (e : Engine) (index : ℕ) (slot : Option ℕ) → Numbered e → Numbered (admitted_of e index slot)
 unfolding admitted_of born_one
 numbered_admitted e index slot w =
     in_case Numbered (ltb (free_place e.particles) 64) _ _
@@ -87,7 +88,7 @@ numbered_admitted e index slot w =
     })
     (λ q. same e _ refl refl w)
 
-numbered-born : (e : Engine) (index own : ℕ) → Numbered e → Numbered (born_of e index own)
+numbered-born : (e : Engine) (index : ℕ) (own : Option ℕ) → Numbered e → Numbered (born_of e index own)
 unfolding born_of attempted_of
 numbered-born e index own w =
     either Numbered _ _ _ (same e _ refl refl w) (either Numbered _ _ _ (same e _ refl refl w) (numbered_admitted _ index _ (same e _ refl refl w)))

@@ -4,6 +4,7 @@ use Prim.Native.Nat.{ℕ, zero, suc, ◌^◌}
 use mathlib.Core.Path.{◌≡◌, refl, ap, ◌∙◌}
 use mathlib.Core.Bool.{Bool, true, false}
 use mathlib.Core.List.{List, [], ◌∷◌, ◌++◌}
+use Rattle.std.specs.Prelude.{Some}
 use lib.Bits.{bit_xor}
 use lib.Dec.{ltb}
 use lib.Ieee.{Float}
@@ -126,7 +127,7 @@ outcome_engine e out = either (λ (t : Triggered). out ≡ t.engine) _ _ _ refl 
 trigger-done : (e : Engine) (slot index : ℕ) → perform e (trigger_acts e slot index) ≡ (triggered_by e slot index).engine
 unfolding trigger_acts triggered_by perform act
 trigger-done e slot index =
-    answer after e (ltb slot 256) _ _ _ _ (answer after e (is_permitted e slot) _ _ _ _ (outcome_engine e (born_of e (bit_xor index (2 ^ 63)) slot)) refl) refl
+    answer after e (ltb slot 256) _ _ _ _ (answer after e (is_permitted e slot) _ _ _ _ (outcome_engine e (born_of e (bit_xor index (2 ^ 63)) (Some slot))) refl) refl
 
 -- ---- every call
 abbrev done : Done → Engine

@@ -2,6 +2,7 @@
 use Prim.Native.Nat.{ℕ, zero, suc, ◌+◌, ◌^◌, ◌≤◌, ◌<◌}
 use native.Mathlib.Omega.{arith}
 use mathlib.Core.Path.{◌≡◌, refl, sym, subst}
+use Rattle.std.specs.Prelude.{Option}
 use mathlib.Core.List.{List, [], ◌∷◌, ◌++◌}
 use borrow.Author.Tests.{ltb-false, leb-true}
 use lib.Dec.{ltb, leb}
@@ -55,7 +56,7 @@ same : (e x : Engine) → x.clock ≡ e.clock → x.streams ≡ e.streams → x.
 same e x k l n g =
     record { clocked = subst Clocked (sym k) g.clocked; streamed = subst (Every Streamed) (sym l) g.streamed; opportunity = subst (λ (i : ℕ). i ≤ opportunity_most) (sym n) g.opportunity }
 
-ranged_born : (e : Engine) (index own : ℕ) → Ranged e → Ranged (born_of e index own)
+ranged_born : (e : Engine) (index : ℕ) (own : Option ℕ) → Ranged e → Ranged (born_of e index own)
 unfolding born_of attempted_of admitted_of
 ranged_born e index own g =
     either Ranged _ _ _ (same e _ refl refl refl g) (either Ranged _ _ _ (same e _ refl refl refl g) (either Ranged _ _ _ (same e _ refl refl refl g) (same e _ refl refl refl g)))

@@ -17,8 +17,7 @@ use Rattle.births.specs.Births.{partials_by, newborn_of}
 use Rattle.pitch_laws.proofs.Harmonics.{Picks, picks-lawful}
 use Rattle.pitch_laws.proofs.Octaves.{WholeUpto}
 use Rattle.pool.specs.declared.Particle.{Particle}
-use Rattle.pool.specs.declared.Retired.{Retired}
-use Rattle.pool.specs.declared.Retired.TheVariants.{Not, At}
+use Rattle.std.specs.Prelude.{Option, Some, None, IfSome}
 use Rattle.pool.specs.Pool.{free_particle}
 use Rattle.settings.specs.declared.Config.{Config}
 use Rattle.settings.specs.declared.Shape.{Shape}
@@ -52,13 +51,17 @@ pub record Harmonics (ps : List ℕ) : Type 0 where
   pub three : length ps ≡ 3
   pub each : (k : ℕ) → get_or ps k 0 ≤ 24
 
+-- one of the 256, or none
+abbrev pub Slot : Option ℕ → Type 0
+Slot k = IfSome k (λ s. s < 256)
+
 -- of a particle that holds a place, at the sample `now`
 pub record Fit (now : ℕ) (p : Particle) : Type 0 where
   pub born : p.birth ≤ now
-  pub retired : (t : ℕ) → p.retirement ≡ At t → (p.birth ≤ t) × (t ≤ now)
+  pub retired : (t : ℕ) → p.retirement ≡ Some t → (p.birth ≤ t) × (t ≤ now)
   pub above : T (lt nought p.lifetime)
   pub most : T (le p.lifetime ten)
-  pub slot : p.source ≤ 256
+  pub slot : Slot p.source
   pub harmonics : Harmonics p.partials
   pub fair : Fair p
   pub octave : WholeUpto 256 p.octave
@@ -97,7 +100,7 @@ pub record Sound (e : Engine) : Type 0 where
   pub made : Made e.prepared
   pub settled : Settled e.config
   pub tried : e.tally.attempts ≤ 64
-  pub last : e.next.last_source ≤ 256
+  pub last : Slot e.next.last_source
   pub time : e.clock.sample ≤ 2 ^ 40
   pub places : length e.particles ≡ 64
   pub slots : length e.sources ≡ 256
@@ -130,9 +133,9 @@ fit-later now later h p f = (later-fit, f.1)
         }
 
 -- ---- a newborn
-abbrev is_at : Retired → Bool
-is_at Not = false
-is_at (At t) = true
+abbrev is_at : Option ℕ → Bool
+is_at None = false
+is_at (Some t) = true
 
 one-harmonic : Harmonics (1 ∷ 0 ∷ 0 ∷ [])
 one-harmonic = record { three = refl; each = each }
@@ -155,7 +158,7 @@ partials_harmonics Sprinkle index weights limit hz octave maxHz = picked_harmoni
 partials_harmonics Cloud index weights limit hz octave maxHz = one-harmonic
 
 pub newborn-fit : (index : ℕ) (voice : Voice) (config : Config) (rate : Float) (sample : ℕ) (weights : List Float)
-    → Settled config → T (fits binary32 rate) → T (lawful_rate rate) → voice.slot ≤ 256 → Voiced voice → Fit sample (newborn_of index voice config rate sample weights)
+    → Settled config → T (fits binary32 rate) → T (lawful_rate rate) → Slot voice.slot → Voiced voice → Fit sample (newborn_of index voice config rate sample weights)
 unfolding newborn_of
 newborn-fit index voice config rate sample weights s f l v o =
     let same = own-convert binary32 rate f in
@@ -176,27 +179,32 @@ newborn-fit index voice config rate sample weights s f l v o =
       fair = subst (λ (c : Config). Fair (newborn_of index voice c rate sample weights)) (sym s.is) (newborn_fair s.asked (both_formed s.asked s.singles) s.hop index voice o rate r sample weights);
     }
 
-voice-slot : (e : Engine) (index slot : ℕ) → slot ≤ 256 → (voice_for e index slot).slot ≤ 256
+voice-slot : (e : Engine) (index : ℕ) (slot : Option ℕ) → Slot slot → Slot (voice_for e index slot).slot
 unfolding voice_for source_voice_of free_voice_of
-voice-slot e index slot h = either (λ (v : Voice). v.slot ≤ 256) _ _ _ h (le_refl 256)
+voice-slot e index None h = tt
+voice-slot e index (Some k) h = either (λ (v : Voice). Slot v.slot) _ _ _ h tt
 
 -- the slot, where it is one, holds a source that may sound
-abbrev pub Sounding : List Source → ℕ → Type 0
-Sounding ss slot = slot < 256 → is_eligible (get_or ss slot past_source) ≡ true
+abbrev pub Sounding : List Source → Option ℕ → Type 0
+Sounding ss slot = IfSome slot (λ s. (s < 256) × (is_eligible (get_or ss s past_source) ≡ true))
+
+pub sounding_slot : (ss : List Source) (slot : Option ℕ) → Sounding ss slot → Slot slot
+sounding_slot ss None h = tt
+sounding_slot ss (Some s) h = h.0
 
 pub past_formed : FormedSource past_source
 unfolding fits
 past_formed = record { hz = tt; strength = tt }
 
-voice_voiced : (e : Engine) (index slot : ℕ) → Sound e → Sounding e.sources slot → Voiced (voice_for e index slot)
+voice_voiced : (e : Engine) (index : ℕ) (slot : Option ℕ) → Sound e → Sounding e.sources slot → Voiced (voice_for e index slot)
 unfolding voice_for
-voice_voiced e index slot s h =
-    in_case Voiced (ltb slot 256) _ _
-    (λ q. source_voiced slot (get_or e.sources slot past_source) (h (ltb-true slot 256 q)) (every_get_or FormedSource e.sources slot past_source past_formed s.formed))
-    (λ q. free_voiced e.config.shape index e.clock.phase e.prepared.sample_rate s.made.single s.made.lawful)
+voice_voiced e index None s h = free_voiced e.config.shape index e.clock.phase e.prepared.sample_rate s.made.single s.made.lawful
+voice_voiced e index (Some k) s h =
+    either Voiced _ _ _ (source_voiced k (get_or e.sources k past_source) h.1 (every_get_or FormedSource e.sources k past_source past_formed s.formed))
+    (free_voiced e.config.shape index e.clock.phase e.prepared.sample_rate s.made.single s.made.lawful)
 
-pub engine_newborn : (e : Engine) (index slot : ℕ) → Sound e → slot ≤ 256 → Sounding e.sources slot → Fit e.clock.sample (newborn_for e index slot)
+pub engine_newborn : (e : Engine) (index : ℕ) (slot : Option ℕ) → Sound e → Sounding e.sources slot → Fit e.clock.sample (newborn_for e index slot)
 unfolding newborn_for
-engine_newborn e index slot s h o =
+engine_newborn e index slot s o =
     newborn-fit index (voice_for e index slot) e.config e.prepared.sample_rate e.clock.sample e.partial_weights
-    s.settled s.made.single s.made.lawful (voice-slot e index slot h) (voice_voiced e index slot s o)
+    s.settled s.made.single s.made.lawful (voice-slot e index slot (sounding_slot e.sources slot o)) (voice_voiced e index slot s o)

@@ -1,5 +1,6 @@
 -- One group of the state after the other, changed as the calls change it, leaves an engine as sound as it was; `new` and `reset` make a sound one.
-use Prim.Native.Nat.{ℕ, ◌^◌, ◌≤◌}
+use Prim.Native.Nat.{ℕ, ◌^◌, ◌≤◌, ◌<◌}
+use Rattle.std.specs.Prelude.{Some}
 use native.Mathlib.Nat.{le_refl}
 use mathlib.Core.Path.{◌≡◌, refl, sym, ◌∙◌, subst}
 use mathlib.Core.Bool.{Bool, true}
@@ -169,7 +170,7 @@ sound_on p m =
       made = m;
       settled = record { asked = default_config; singles = default_singles; hop = lit≤ tt; is = default_mended };
       tried = lit≤ tt;
-      last = le_refl 256;
+      last = tt;
       time = lit≤ tt;
       places = refl;
       slots = refl;
@@ -208,6 +209,6 @@ pub three-prepared : (ss : List SprinkleStream) (sync : Bool) → length (prepar
 unfolding prepared_all
 three-prepared ss sync = refl
 
-pub permitted-sounding : (e : Engine) (slot : ℕ) → is_permitted e slot ≡ true → Sounding e.sources slot
+pub permitted-sounding : (e : Engine) (slot : ℕ) → slot < 256 → is_permitted e slot ≡ true → Sounding e.sources (Some slot)
 unfolding is_permitted
-permitted-sounding e slot h l = (both (is_sprinkle e.config.shape) _ (both e.config.enabled _ h).1).1
+permitted-sounding e slot l h = (l, (both (is_sprinkle e.config.shape) _ (both e.config.enabled _ h).1).1)

@@ -2,6 +2,7 @@
 -- It holds before and after each call; within `configure` the weights come before the settings.
 use Prim.Native.Nat.{ℕ, zero, suc}
 use mathlib.Core.Path.{◌≡◌, refl, sym, ap, ◌∙◌, subst}
+use Rattle.std.specs.Prelude.{Option, Some}
 use mathlib.Core.List.{List}
 use borrow.Author.Tests.{ltb-false}
 use lib.Dec.{T, ltb}
@@ -70,7 +71,7 @@ unfolding reset_of
 weighed-reset e s = weighed-on e.prepared s.made
 
 -- ---- a birth and a sample touch none of the three
-weighed-born : (e : Engine) (index own : ℕ) → Weighed e → Weighed (born_of e index own)
+weighed-born : (e : Engine) (index : ℕ) (own : Option ℕ) → Weighed e → Weighed (born_of e index own)
 weighed-born e index own w = subst Matching (sym (born-keeps groups (λ e ps n t. refl) e index own)) w
 
 weighed_stepped : (e : Engine) → Weighed e → Weighed (stepped_of e)
@@ -138,7 +139,7 @@ weighed_triggered : (e : Engine) (slot index : ℕ) → Weighed e → Weighed (t
 unfolding triggered_by
 weighed_triggered e slot index w =
     let P : Triggered → Type 0 = λ t. Weighed t.engine in
-    either P _ _ _ (either P _ _ _ (let b = weighed-born e _ slot w in either P _ _ _ b b) w) w
+    either P _ _ _ (either P _ _ _ (let b = weighed-born e _ (Some slot) w in either P _ _ _ b b) w) w
 
 weighed-placed : (e : Engine) (slot : ℕ) (s : Source) → Weighed e → Weighed (supplied_of e slot s)
 unfolding supplied_of

@@ -1,6 +1,6 @@
 -- The calls as acts: what a call does, one step after the other, so that every moment of a run has a name, between two births of one sample too.
 -- A refused call has no acts, but for a trigger on a missing slot, which still uses up its index. Definitions only.
-use Rattle.std.specs.Prelude.{ℕ, zero, suc, ◌+◌, ◌^◌, Bool, List, [], ◌∷◌, ◌++◌, map, eqb, leb, ltb, get_or, set, Float, Ok, Err}
+use Rattle.std.specs.Prelude.{ℕ, zero, suc, ◌+◌, ◌^◌, Bool, List, [], ◌∷◌, ◌++◌, map, eqb, leb, ltb, get_or, set, Float, Ok, Err, Option, Some, None}
 use Rattle.std.specs.Int.Bits.{bit_xor}
 use Rattle.std.specs.Float.Ieee.{lt, le, eq}
 use Rattle.floats.specs.Names.{Single, Double}
@@ -16,7 +16,7 @@ use Rattle.settings.specs.declared.Shape.TheVariants.{Sprinkle, Cloud}
 use Rattle.settings.specs.Settings.{checked_of}
 use Rattle.settings.specs.Mending.{mended_of}
 use Rattle.sources.specs.declared.Source.{Source}
-use Rattle.sources.specs.Sources.{no_source, same, same_flag, is_pitched, released_of, max_sources, no_slot}
+use Rattle.sources.specs.Sources.{no_source, same, same_flag, is_pitched, released_of, max_sources}
 use Rattle.timing.specs.declared.SprinkleStream.{SprinkleStream}
 use Rattle.timing.specs.Streams.{aligned_all, moved_of, reference_of}
 use Rattle.state.specs.declared.Clock.{Clock}
@@ -35,8 +35,8 @@ use Rattle.frame.specs.Call.{held_of, freed_of, renewed_of, framed_of}
 
 -- ---- acts
 pub data Act : Type 0 where
-  -- an index, and a trigger's own slot (`no_slot` for none)
-  birth : ℕ → ℕ → Act
+  -- an index, and a trigger's own slot (`None` for none)
+  birth : ℕ → Option ℕ → Act
   -- every particle, or those that follow a slot
   retire : Act
   retire_bound : ℕ → Act
@@ -79,7 +79,7 @@ unfoldable pub tried_acts : Engine → ℕ → Float → List Act
 tried_acts e lane reference =
     let s = get_or e.streams lane past_stream in
     pick (lt reference s.next) []
-    (streams (set e.streams lane (moved_of s.index lane reference e.config.sync)) ∷ pick s.emit (only e.config.enabled (birth (key_of lane s.index) no_slot)) [])
+    (streams (set e.streams lane (moved_of s.index lane reference e.config.sync)) ∷ pick s.emit (only e.config.enabled (birth (key_of lane s.index) None)) [])
 
 unfoldable pub lane_acts : Engine → ℕ → Float → List Act
 lane_acts e lane reference = tried_acts e lane reference ++ tried_acts (tried_of e lane reference) lane reference
@@ -91,7 +91,7 @@ shape_acts Sprinkle e reference =
 shape_acts Cloud e reference =
     let index = e.next.opportunity in
     pick (le (reference_of index) reference)
-    (next (with_opportunity e.next (opportunity_after index reference)) ∷ only e.config.enabled (birth index no_slot)) []
+    (next (with_opportunity e.next (opportunity_after index reference)) ∷ only e.config.enabled (birth index None)) []
 
 -- births first, then the clock
 unfoldable pub deliver_acts : Engine → List Act
@@ -133,7 +133,7 @@ checked_acts (Err r) e c = []
 
 -- ---- triggers
 unfoldable pub trigger_acts : Engine → ℕ → ℕ → List Act
-trigger_acts e slot index = pick (ltb slot max_sources) (only (is_permitted e slot) (birth (bit_xor index (2 ^ 63)) slot)) []
+trigger_acts e slot index = pick (ltb slot max_sources) (only (is_permitted e slot) (birth (bit_xor index (2 ^ 63)) (Some slot))) []
 
 abbrev pub reserve_act : Engine → Act
 reserve_act e = next (with_index e.next (grown e.next.immediate_index))

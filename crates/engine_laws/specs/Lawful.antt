@@ -1,13 +1,12 @@
 -- What every run keeps true of an engine, group by group: where each of its numbers lies, that each float is of its format, and that each counter is a word. Definitions only.
-use Rattle.std.specs.Prelude.{ℕ, ◌^◌, ◌≤◌, ◌<◌, ◌≡◌, ◌⊎◌, Bool, true, false, T, length, get_or}
+use Rattle.std.specs.Prelude.{ℕ, ◌^◌, ◌≤◌, ◌<◌, ◌≡◌, ◌⊎◌, Bool, true, false, T, length, get_or, Some, IfSome}
 use Rattle.std.specs.Float.Ieee.{lt, le}
 use Rattle.std.specs.Float.Ieee.Exact.{HasValue}
 use Rattle.std.specs.Float.Ieee.Scale.{finite}
-use Rattle.sources.specs.Sources.{max_sources, no_slot}
+use Rattle.sources.specs.Sources.{max_sources}
 use Rattle.sequences.specs.Every.{Every}
 use Rattle.floats.specs.Names.{f64, zero32, one, Single, Double}
 use Rattle.pool.specs.declared.Particle.{Particle}
-use Rattle.pool.specs.declared.Retired.TheVariants.{At}
 use Rattle.pool.specs.Pool.{free_particle}
 use Rattle.pool.specs.Vacancies.{active_count}
 use Rattle.settings.specs.declared.Config.{Config}
@@ -43,10 +42,10 @@ pub record LawfulStream (s : SprinkleStream) : Type 0 where
 
 -- of a particle that is active, at the sample `now`
 pub record LawfulParticle (now : ℕ) (p : Particle) : Type 0 where
-  pub slot : p.source ≤ no_slot
+  pub slot : IfSome p.source (λ s. s < max_sources)
   pub partials : (length p.partials ≡ 3) × ((k : ℕ) → get_or p.partials k 0 ≤ 24)
   pub birth : p.birth ≤ now
-  pub retirement : (t : ℕ) → p.retirement ≡ At t → (p.birth ≤ t) × (t ≤ now)
+  pub retirement : (t : ℕ) → p.retirement ≡ Some t → (p.birth ≤ t) × (t ≤ now)
   pub frequency : T (lt zero32 p.frequency_hz) × T (finite p.frequency_hz) × Single p.frequency_hz
   pub width : T (lt zero32 p.width) × T (finite p.width) × Single p.width
   pub octave : (s : Bool) × (n : ℕ) × (n ≤ 256) × HasValue p.octave s n 1
@@ -71,7 +70,7 @@ pub record Lawful (e : Engine) : Type 0 where
   pub streams : Every LawfulStream e.streams
   pub opportunity : e.next.opportunity < 2 ^ 59
   pub reserved : e.next.immediate_index < 2 ^ 64
-  pub last : e.next.last_source ≤ no_slot
+  pub last : IfSome e.next.last_source (λ s. s < max_sources)
   pub attempts : e.tally.attempts ≤ 64
   pub births : e.tally.births < 2 ^ 64
   pub dropped : e.tally.dropped < 2 ^ 64

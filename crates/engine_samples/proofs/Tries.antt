@@ -1,5 +1,5 @@
 -- One try of a lane: not due, moved on in silence, or moved on with a birth.
-use Rattle.std.proofs.Common.{◌≡◌, ℕ, ◌/◌, Bool, true, false, get_or, set, sym, refl, ap, ◌∙◌}
+use Rattle.std.proofs.Common.{◌≡◌, ℕ, ◌/◌, Bool, true, false, get_or, set, None, sym, refl, ap, ◌∙◌}
 use lib.Ieee.{Float, lt}
 use Rattle.sequences.specs.Pick.{pick, took, skipped}
 use Rattle.draws.specs.Draws.{key_of}
@@ -48,12 +48,12 @@ module _ (e : Engine) (lane : ℕ) (reference : Float) where
     unfolding tried_of
     moved-silent q = skipped _ _ _ _ due (is-moved ∙ silent stream.emit e.config.enabled _ _ q)
 
-    pub moved-born : (key : ℕ) (a : Arrival) → pick stream.emit e.config.enabled false ≡ true → key ≡ key_of lane stream.index → a ≡ arrival_of after key 256
+    pub moved-born : (key : ℕ) (a : Arrival) → pick stream.emit e.config.enabled false ≡ true → key ≡ key_of lane stream.index → a ≡ arrival_of after key None
         → with_arrival after a ≡ tried_of e lane reference
     unfolding tried_of
     moved-born key a q k p =
         skipped _ _ _ _ due
-        (born-by after key 256 a p
-        ∙ ap (λ (x : ℕ). born_of after x 256) k
-        ∙ ap (λ (x : Engine). born_of x (key_of lane stream.index) 256) is-moved
+        (born-by after key None a p
+        ∙ ap (λ (x : ℕ). born_of after x None) k
+        ∙ ap (λ (x : Engine). born_of x (key_of lane stream.index) None) is-moved
         ∙ heard stream.emit e.config.enabled _ _ q)

@@ -1,5 +1,5 @@
 -- What a birth and a delivery leave as it was: a birth touches the places, what comes next and the counters alone. And a sample counts one more.
-use Rattle.std.proofs.Common.{◌≡◌, ℕ, List, refl, ap, ◌∙◌}
+use Rattle.std.proofs.Common.{◌≡◌, ℕ, List, Option, refl, ap, ◌∙◌}
 use lib.Ieee.{Float}
 use Rattle.floats.specs.Word.{grown}
 use Rattle.sequences.specs.Pick.{either}
@@ -16,7 +16,7 @@ use Rattle.engine_samples.specs.Sample.{tried_of, lane_of, lanes_of, cloud_of, b
 
 -- a birth changes these three groups alone: what reads none of them reads the same after it
 pub born-keeps : {A : Type 0} (π : Engine → A) → ((e : Engine) (ps : List Particle) (n : Next) (t : Tally) → π (with_tally (with_particles (with_next e n) ps) t) ≡ π e)
-    → (e : Engine) (index own : ℕ) → π (born_of e index own) ≡ π e
+    → (e : Engine) (index : ℕ) (own : Option ℕ) → π (born_of e index own) ≡ π e
 unfolding born_of attempted_of admitted_of
 born-keeps π h e index own =
     either (λ x. π x ≡ π e) _ _ _ (h e e.particles _ _)

@@ -1,8 +1,7 @@
 -- One sample of `advance`: its births, then the clock, line by line as the Rust has them. Definitions only.
-use Rattle.std.specs.Prelude.{ℕ, cond, slice_index_or, slice_set, Float}
+use Rattle.std.specs.Prelude.{ℕ, cond, slice_index_or, slice_set, Float, None}
 use Rattle.std.specs.Float.{binary64}
 use Rattle.std.specs.Float.Ieee.{to_unsigned, lt, le}
-use Rattle.sources.specs.Sources.{no_slot}
 use Rattle.floats.specs.Word.{grown}
 use Rattle.sequences.specs.Pick.{pick}
 use Rattle.floats.specs.Names.{f64, add64, sub64, mul64, div64}
@@ -28,7 +27,7 @@ moved e lane reference s = with_streams e (slice_set e.streams lane (moved_of s.
 abbrev pub tried_with : Engine → ℕ → Float → SprinkleStream → Engine
 tried_with e lane reference s =
     let out = moved e lane reference s in
-    pick (lt reference s.next) e (pick s.emit (pick e.config.enabled (born_of out (key_of lane s.index) no_slot) out) out)
+    pick (lt reference s.next) e (pick s.emit (pick e.config.enabled (born_of out (key_of lane s.index) None) out) out)
 
 unfoldable pub tried_of : Engine → ℕ → Float → Engine
 tried_of e lane reference = tried_with e lane reference (slice_index_or e.streams lane past_stream)
@@ -60,7 +59,7 @@ unfoldable pub cloud_of : Engine → Float → Engine
 cloud_of e reference =
     let index = e.next.opportunity in
     let out = with_next e (with_opportunity e.next (opportunity_after index reference)) in
-    pick (le (reference_of index) reference) (pick e.config.enabled (born_of out index no_slot) out) e
+    pick (le (reference_of index) reference) (pick e.config.enabled (born_of out index None) out) e
 
 -- ---- one sample
 unfoldable pub by_shape_of : Shape → Engine → Float → Engine

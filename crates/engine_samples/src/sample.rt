@@ -32,14 +32,11 @@ pub fn lanes(engine: Engine, reference: f64) -> Engine
             out.streams[lane] = moved;
             if sounds(stream.emit, out.config.enabled) {
                 let key = draws::sprinkle_key(lane, stream.index);
-                let arrival = births::birth(out, key, sources::NO_SOURCE);
-                let particle = arrival.particle;
-                let tally = arrival.tally;
-                let place = arrival.place;
+                let arrival = births::birth(out, key, None);
                 out.next.last_source = arrival.slot;
-                out.tally = tally;
-                if place < pool::MAX_PARTICLES {
-                    out.particles[place] = particle;
+                out.tally = arrival.tally;
+                if let Some(place) = arrival.place {
+                    out.particles[place] = arrival.particle;
                 }
             }
         }
@@ -69,14 +66,11 @@ pub fn cloud(engine: Engine, reference: f64) -> Engine
         let mut out = engine;
         out.next.opportunity = after;
         if config.enabled {
-            let arrival = births::birth(out, index, sources::NO_SOURCE);
-            let particle = arrival.particle;
-            let tally = arrival.tally;
-            let place = arrival.place;
+            let arrival = births::birth(out, index, None);
             out.next.last_source = arrival.slot;
-            out.tally = tally;
-            if place < pool::MAX_PARTICLES {
-                out.particles[place] = particle;
+            out.tally = arrival.tally;
+            if let Some(place) = arrival.place {
+                out.particles[place] = arrival.particle;
             }
         }
         return out;

@@ -44,7 +44,7 @@ pub fn retire_source(engine: Engine, slot: usize) -> Done
     if slot >= MAX_SOURCES {
         return state::refuse(engine, Refusal::Slot);
     }
-    let none = sources::no_source();
+    let none = Source::default();
     let particles = engine.particles;
     let retired = pool::retire_bound(particles, slot, engine.clock.sample);
     let mut out = engine;

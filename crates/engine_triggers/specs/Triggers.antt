@@ -56,7 +56,7 @@ outcome_of e out = pick (out.tally.dropped == e.tally.dropped) (triggered_with (
 unfoldable pub triggered_by : Engine → ℕ → ℕ → Triggered
 triggered_by e slot index =
     pick (nat_lt slot max_sources)
-    (pick (is_permitted e slot) (outcome_of e (born_of e (bit_xor index (2 ^ 63)) slot)) (triggered_with (Ok NotEligible) e))
+    (pick (is_permitted e slot) (outcome_of e (born_of e (bit_xor index (2 ^ 63)) (Some slot))) (triggered_with (Ok NotEligible) e))
     (triggered_with (Err Slot) e)
 
 -- let index = self.reserve_trigger(); self.trigger_reserved(slot, index);

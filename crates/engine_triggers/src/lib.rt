@@ -45,16 +45,7 @@ pub fn reserve_trigger(engine: Engine) -> Reserved
 fn permitted(config: Config, source: Source) -> bool
     ensures { result ≡ permits config source }
 {
-    let shape = config.shape;
-    if config.enabled {
-        if settings::is_sprinkle(shape) {
-            sources::eligible(source)
-        } else {
-            false
-        }
-    } else {
-        false
-    }
+    config.enabled && settings::is_sprinkle(config.shape) && sources::eligible(source)
 }
 
 // A birth that was dropped has made `dropped` grow.
@@ -80,15 +71,12 @@ fn fire(engine: Engine, slot: usize, index: u64, after: u64) -> Triggered
         let source = out.sources[slot];
         outcome = Ok(Outcome::NotEligible);
         if permitted(config, source) {
-            let arrival = births::birth(out, index ^ 9223372036854775808, slot);
-            let particle = arrival.particle;
-            let tally = arrival.tally;
-            let place = arrival.place;
-            outcome = became(out.tally.dropped, tally.dropped);
+            let arrival = births::birth(out, index ^ 9223372036854775808, Some(slot));
+            outcome = became(out.tally.dropped, arrival.tally.dropped);
             out.next.last_source = arrival.slot;
-            out.tally = tally;
-            if place < pool::MAX_PARTICLES {
-                out.particles[place] = particle;
+            out.tally = arrival.tally;
+            if let Some(place) = arrival.place {
+                out.particles[place] = arrival.particle;
             }
         }
     }

@@ -1,13 +1,11 @@
 -- Which places a frame frees, line by line as the Rust's `frame`. Definitions only.
-use Rattle.std.specs.Prelude.{ℕ, Bool, ◌&&◌, ◌||◌, pos, Float}
+use Rattle.std.specs.Prelude.{ℕ, Bool, ◌&&◌, ◌||◌, pos, Float, Option, Some, None}
 use Rattle.std.specs.Float.{binary64}
 use Rattle.std.specs.Float.Ieee.{le, of_int}
 use Rattle.sequences.specs.Pick.{pick}
 use Rattle.floats.specs.Names.{f64, div64}
 use Rattle.floats.specs.Word.{difference}
 use Rattle.pool.specs.declared.Particle.{Particle}
-use Rattle.pool.specs.declared.Retired.{Retired}
-use Rattle.pool.specs.declared.Retired.TheVariants.{Not, At}
 use Rattle.pool.specs.Pool.{free_particle}
 
 -- self.sample - since, a difference of words of 64 bits
@@ -19,9 +17,9 @@ unfoldable pub seconds_of : ℕ → ℕ → Float → Float
 seconds_of since sample rate = div64 (of_int binary64 (pos (elapsed_of since sample))) rate
 
 -- p.retirement.map_or(0.0, |sample| .. / RETIRE_SECONDS)
-unfoldable pub retirement_of : Retired → ℕ → Float → Float
-retirement_of Not sample rate = f64 0
-retirement_of (At since) sample rate = div64 (seconds_of since sample rate) (f64 0x3f947ae147ae147b)
+unfoldable pub retirement_of : Option ℕ → ℕ → Float → Float
+retirement_of None sample rate = f64 0
+retirement_of (Some since) sample rate = div64 (seconds_of since sample rate) (f64 0x3f947ae147ae147b)
 
 -- age >= p.lifetime || retirement >= 1.0
 unfoldable pub due_of : ℕ → Float → Particle → Bool

@@ -78,7 +78,7 @@ fn taken(
     let logs = prepared.partial_logs;
     let sample = engine.clock.sample;
     let rate = prepared.sample_rate;
-    let free = pool::free_particle();
+    let free = Particle::default();
     let nothing = places::nothing_shown();
     let mut held = particles;
     let mut shown = [nothing; MAX_PARTICLES];
@@ -107,7 +107,7 @@ fn taken(
 fn refused(engine: Engine) -> Framed
     ensures { result ≡ refused_of engine }
 {
-    let frame = windows::empty_frame();
+    let frame = Frame::default();
     Framed {
         answer: Err(Refusal::Seconds),
         frame,

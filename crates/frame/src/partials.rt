@@ -29,7 +29,7 @@ fn placed(s: Shown, center: f32, bin_hz: f32, max_hz: f32) -> Window
 {
     let hz = elementary::exp2(center);
     if hz >= max_hz {
-        return windows::empty_window();
+        return Window::default();
     }
     let radius = radius(s.width, bin_hz, hz);
     Window {
@@ -49,7 +49,7 @@ pub fn windows(
 ) -> [Window; 192]
     ensures { result ≡ windows_of logs bin_hz max_hz shown }
 {
-    let none = windows::empty_window();
+    let none = Window::default();
     let mut out = [none; 192];
     for p in 0..MAX_PARTICLES {
         let s = shown[p];

@@ -3,7 +3,7 @@ ghost use Rattle.std.specs.Prelude.{◌≡◌, ◌&&◌};
 ghost use Rattle.frame.specs.Freed.{seconds_of, retirement_of, due_of};
 ghost use Rattle.frame.specs.Shown.{power_of, envelope_of, fade_of, amplitude_of, nothing, shown_of};
 
-use pool::{Particle, Retired};
+use pool::Particle;
 
 pub const RETIRE_SECONDS: f64 = 0.02;
 
@@ -27,12 +27,12 @@ fn seconds(since: u64, sample: u64, rate: f64) -> f64
     std::num::nearest_u64_to_f64(elapsed) / rate
 }
 
-fn retirement(k: Retired, sample: u64, rate: f64) -> f64
+fn retirement(k: Option<u64>, sample: u64, rate: f64) -> f64
     ensures { result ≡ retirement_of k sample rate }
 {
     match k {
-        Retired::Not => 0.0,
-        Retired::At(at) => seconds(at, sample, rate) / RETIRE_SECONDS,
+        None => 0.0,
+        Some(at) => seconds(at, sample, rate) / RETIRE_SECONDS,
     }
 }
 
@@ -80,8 +80,8 @@ fn fade(p: Particle, sample: u64, rate: f64) -> f32
 {
     let k = p.retirement;
     match k {
-        Retired::Not => 1.0,
-        Retired::At(_) => windows::taper(1.0 - floats::f64_to_f32(retirement(k, sample, rate))),
+        None => 1.0,
+        Some(_) => windows::taper(1.0 - floats::f64_to_f32(retirement(k, sample, rate))),
     }
 }
 

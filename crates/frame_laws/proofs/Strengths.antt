@@ -23,8 +23,7 @@ use Rattle.floats_laws.proofs.Rising.{nought, not_above}
 use Rattle.floats_laws.proofs.Spans.{lt_le}
 use Rattle.floats.proofs.Values.{fine}
 use Rattle.pool.specs.declared.Particle.{Particle}
-use Rattle.pool.specs.declared.Retired.{Retired}
-use Rattle.pool.specs.declared.Retired.TheVariants.{Not, At}
+use Rattle.std.specs.Prelude.{Option, Some, None}
 use Rattle.windows.specs.Opening.{taper_of, cubic}
 use Rattle.windows_laws.proofs.Tapered.{taper-finite, taper_most}
 use Rattle.frame.specs.Freed.{elapsed_of, seconds_of, retirement_of}
@@ -91,10 +90,10 @@ module _ (rate : Float) (r : Rated rate) (sample : ℕ) where
   unfolding seconds_of of_int
   seconds-number since = quotient_number binary64 (of_int binary64 (pos (elapsed_of since sample))) rate (round_number binary64 false (elapsed_of since sample) 1) r.rate_finite r.rate_above
 
-  retirement-number : (k : Retired) → T (not (is_nan (retirement_of k sample rate)))
+  retirement-number : (k : Option ℕ) → T (not (is_nan (retirement_of k sample rate)))
   unfolding retirement_of of_bits is_nan lt
-  retirement-number Not = tt
-  retirement-number (At since) = quotient_number binary64 (seconds_of since sample rate) (f64 0x3f947ae147ae147b) (seconds-number since) tt tt
+  retirement-number None = tt
+  retirement-number (Some since) = quotient_number binary64 (seconds_of since sample rate) (f64 0x3f947ae147ae147b) (seconds-number since) tt tt
 
   fade_unit : (p : Particle) → Proportion (fade_of sample rate p)
   unfolding fade_of of_bits

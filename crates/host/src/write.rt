@@ -5,7 +5,7 @@ ghost use Rattle.script.specs.declared.fields.Field.TheVariants as F;
 ghost use Rattle.host.specs.Write.{config_from, written_at};
 
 use crate::told;
-use settings::Config;
+use settings::{Config, Direction, Shape};
 
 #[unsafe(no_mangle)]
 pub extern "C" fn rk_write_rate(rate: f32, out: &mut [u8], at: &mut u64) -> u32
@@ -37,8 +37,8 @@ pub extern "C" fn rk_write_configure(
 {
     let config = Config {
         enabled,
-        shape: settings::shape_from(shape as u32),
-        direction: settings::direction_from(direction as u32),
+        shape: Shape::from(shape as u32),
+        direction: Direction::from(direction as u32),
         rate_hz,
         size_octaves,
         phase,

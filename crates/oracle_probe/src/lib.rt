@@ -22,7 +22,7 @@ ghost use Rattle.settings.specs.Mending.{attack_of, release_ms_of, partials_held
 ghost use Rattle.settings.specs.Envelope.{contour_of};
 ghost use Rattle.timing.specs.Streams.{prepared_stream, aligned_of, reference_of};
 
-use settings::Config;
+use settings::{Config, Direction, Shape};
 use timing::SprinkleStream;
 
 mod counts;
@@ -273,8 +273,8 @@ fn config_of(
 ) -> Config
     ensures { result ≡ probed_config kind way rate size turn hop count rolloff attack release }
 {
-    let shape = settings::shape_from(kind);
-    let direction = settings::direction_from(way);
+    let shape = Shape::from(kind);
+    let direction = Direction::from(way);
     Config {
         enabled: true,
         shape,
@@ -498,7 +498,7 @@ pub extern "C" fn rk_probe_free_cloud_frequency(index: u64, max_hz: f32) -> f32
 pub extern "C" fn rk_probe_octave(index: u64, root_hz: f32, max_hz: f32, way: u32) -> f32
     ensures { result ≡ (register_of index root_hz max_hz (direction_from way)).octave }
 {
-    let register = pitch::sprinkle_register(index, root_hz, max_hz, settings::direction_from(way));
+    let register = pitch::sprinkle_register(index, root_hz, max_hz, Direction::from(way));
     register.octave
 }
 
@@ -506,7 +506,7 @@ pub extern "C" fn rk_probe_octave(index: u64, root_hz: f32, max_hz: f32, way: u3
 pub extern "C" fn rk_probe_strength(index: u64, root_hz: f32, max_hz: f32, way: u32) -> f32
     ensures { result ≡ (register_of index root_hz max_hz (direction_from way)).strength }
 {
-    let register = pitch::sprinkle_register(index, root_hz, max_hz, settings::direction_from(way));
+    let register = pitch::sprinkle_register(index, root_hz, max_hz, Direction::from(way));
     register.strength
 }
 

@@ -1,16 +1,13 @@
 -- The parts of the state as numbers, in the order of `oracle state`: floats by their bits with one NaN, flags and choices as 0, 1, 2, and "none" as all ones. Definitions only.
-use Rattle.std.specs.Prelude.{ℕ, List, [], ◌∷◌, eqb, Float, get_or}
+use Rattle.std.specs.Prelude.{ℕ, List, [], ◌∷◌, eqb, Float, get_or, Option, Some, None}
 use Rattle.std.specs.Float.{binary32, binary64}
 use Rattle.std.specs.Float.Ieee.{to_bits}
 use Rattle.sequences.specs.Pick.{pick}
 use Rattle.big_endian.specs.Bytes.{flag_of}
 use Rattle.pool.specs.declared.Particle.{Particle}
-use Rattle.pool.specs.declared.Retired.{Retired}
-use Rattle.pool.specs.declared.Retired.TheVariants.{Not, At}
 use Rattle.settings.specs.declared.Config.{Config}
 use Rattle.settings.specs.ByNumber.{shape_number, direction_number}
 use Rattle.sources.specs.declared.Source.{Source}
-use Rattle.sources.specs.Sources.{no_slot}
 use Rattle.state.specs.declared.Engine.{Engine}
 use Rattle.state.specs.declared.Prepared.{Prepared}
 use Rattle.timing.specs.declared.SprinkleStream.{SprinkleStream}
@@ -18,12 +15,13 @@ use Rattle.timing.specs.declared.SprinkleStream.{SprinkleStream}
 abbrev pub none_word : ℕ
 none_word = 18446744073709551615
 
-unfoldable pub slot_of : ℕ → ℕ
-slot_of n = pick (eqb n no_slot) none_word n
+abbrev pub slot_of : Option ℕ → ℕ
+slot_of None = none_word
+slot_of (Some n) = n
 
-abbrev pub retired_word : Retired → ℕ
-retired_word Not = none_word
-retired_word (At sample) = sample
+abbrev pub retired_word : Option ℕ → ℕ
+retired_word None = none_word
+retired_word (Some sample) = sample
 
 abbrev bits32 : Float → ℕ
 bits32 x = to_bits binary32 x

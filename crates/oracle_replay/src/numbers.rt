@@ -7,9 +7,9 @@ ghost use Rattle.big_endian.specs.Bytes.{flag_of};
 ghost use Rattle.settings.specs.ByNumber.{shape_number, direction_number};
 ghost use Rattle.oracle_replay.specs.Numbers.{slot_of, retired_word, counts_of, config_words, prepared_words, harmonic_words, stream_words, source_words, particle_of};
 
-use pool::{Particle, Retired};
+use pool::Particle;
 use settings::{Config, Direction, Shape};
-use sources::{NO_SOURCE, Source};
+use sources::Source;
 use state::{Engine, Prepared};
 use timing::SprinkleStream;
 
@@ -21,34 +21,34 @@ fn flag(b: bool) -> u64
     big_endian::flag(b) as u64
 }
 
-fn slot(n: usize) -> u64
+fn slot(n: Option<usize>) -> u64
     ensures { result ≡ slot_of n }
 {
-    if n == NO_SOURCE {
-        return NONE;
+    match n {
+        None => NONE,
+        Some(slot) => slot as u64,
     }
-    n as u64
 }
 
-fn retired(r: Retired) -> u64
+fn retired(r: Option<u64>) -> u64
     ensures { result ≡ retired_word r }
 {
     match r {
-        Retired::Not => NONE,
-        Retired::At(sample) => sample,
+        None => NONE,
+        Some(sample) => sample,
     }
 }
 
 fn shape(s: Shape) -> u64
     ensures { result ≡ shape_number s }
 {
-    settings::shape_number(s) as u64
+    u8::from(s) as u64
 }
 
 fn direction(d: Direction) -> u64
     ensures { result ≡ direction_number d }
 {
-    settings::direction_number(d) as u64
+    u8::from(d) as u64
 }
 
 fn single(x: f32) -> u64

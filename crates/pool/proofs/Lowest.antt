@@ -7,7 +7,11 @@ use lib.ListN.{length, get_or}
 use Rattle.sequences.specs.First.{first-fails, first_passes}
 use Rattle.pool.specs.declared.Particle.{Particle}
 use Rattle.pool.specs.Pool.{free_particle}
-use Rattle.pool.specs.Vacancies.{is_free, free_place}
+use Rattle.pool.specs.Vacancies.{is_free, free_place, vacant_place}
+use Rattle.std.specs.Prelude.{Option, Some, None}
+use Rattle.sequences.specs.Pick.{picked, passed, by-case}
+use Rattle.std.proofs.lemmas.Option.{none-some, same_Some}
+use Rattle.std.proofs.Common.{ltb, lt-ltb, le-ltb, ◌∙◌, ap, arith}
 
 module _ (ps : List Particle) where
   pub lowest-free : free_place ps < length ps → (get_or ps (free_place ps) free_particle).active ≡ false
@@ -23,3 +27,24 @@ module _ (ps : List Particle) where
       back : (b : Bool) → not b ≡ false → b ≡ true
       back true q = refl
       back false q = absurd (true≢false q)
+
+-- ---- and as an answer
+module _ (ps : List Particle) where
+  pub vacant : (i : ℕ) → i ≡ free_place ps → i < 64 → Some i ≡ vacant_place ps
+  unfolding vacant_place
+  vacant i e h = ap (λ (k : ℕ). Some k) e ∙ picked _ _ _ (lt-ltb (free_place ps) 64 (omega (arith, e)))
+
+  pub none_vacant : 64 ≡ free_place ps → None ≡ vacant_place ps
+  unfolding vacant_place
+  none_vacant e = passed _ _ _ (le-ltb (free_place ps) 64 (omega (arith, e)))
+
+  -- an answer says where it is, or that all are held
+  pub vacant-is : (i : ℕ) → Some i ≡ vacant_place ps → (ltb (free_place ps) 64 ≡ true) × (i ≡ free_place ps)
+  unfolding vacant_place
+  vacant-is i e =
+      by-case (ltb (free_place ps) 64) (λ h. (h, same_Some _ _ (e ∙ sym (picked _ _ _ h))))
+      (λ h. absurd (none-some i (passed _ _ _ h ∙ sym e)))
+
+  pub none-is : None ≡ vacant_place ps → ltb (free_place ps) 64 ≡ false
+  unfolding vacant_place
+  none-is e = by-case (ltb (free_place ps) 64) (λ h. absurd (none-some _ (e ∙ sym (picked _ _ _ h)))) (λ h. h)

@@ -3,9 +3,7 @@
 #![tactic(auto)]
 
 ghost use Rattle.std.specs.Prelude.{◌≡◌, map};
-ghost use Rattle.pool.specs.Pool.{free_particle, first_retirement, retired_of, retire_one, retire_bound_one, retune_one};
-
-use sources::NO_SOURCE;
+ghost use Rattle.pool.specs.Pool.{free_particle, retired_of, retire_one, retire_bound_one, retune_one};
 
 mod vacancies;
 
@@ -13,21 +11,11 @@ pub use vacancies::free_place;
 
 pub const MAX_PARTICLES: usize = 64;
 
-// Stands for no place, where the number of one could stand.
-pub const NO_PLACE: usize = 64;
-
-// When a particle was first retired.
-#[derive(Clone, Copy)]
-pub enum Retired {
-    Not,
-    At(u64),
-}
-
 #[derive(Clone, Copy)]
 pub struct Particle {
     pub active: bool,
     // The slot that it follows.
-    pub source: usize,
+    pub source: Option<usize>,
     pub birth: u64,
     pub lifetime: f64,
     pub frequency_hz: f32,
@@ -38,60 +26,39 @@ pub struct Particle {
     pub decay_power: u32,
     // The selected harmonics; 0 marks an unused window.
     pub partials: [u8; 3],
-    pub retirement: Retired,
+    // The sample of its first retirement.
+    pub retirement: Option<u64>,
 }
 
-pub fn free_particle() -> Particle
-    ensures { result ≡ free_particle }
-{
-    Particle {
-        active: false,
-        source: NO_SOURCE,
-        birth: 0,
-        lifetime: 0.0,
-        frequency_hz: 0.0,
-        octave: 0.0,
-        width: 0.0,
-        strength: 0.0,
-        attack: 0.0,
-        decay_power: 0,
-        partials: [0u8; 3],
-        retirement: Retired::Not,
+impl Default for Particle {
+    ghost is_default = { λ x. x ≡ free_particle };
+
+    fn default() -> Particle {
+        Particle {
+            active: false,
+            source: None,
+            birth: 0,
+            lifetime: 0.0,
+            frequency_hz: 0.0,
+            octave: 0.0,
+            width: 0.0,
+            strength: 0.0,
+            attack: 0.0,
+            decay_power: 0,
+            partials: [0u8; 3],
+            retirement: None,
+        }
     }
 }
 
-// The first retirement stands.
-fn first(k: Retired, sample: u64) -> u64
-    ensures { result ≡ first_retirement k sample }
-{
-    match k {
-        Retired::Not => sample,
-        Retired::At(t) => t,
-    }
-}
-
-// It leaves its source, so that no later source of the slot retunes it.
+// It leaves its source, so that no later source of the slot retunes it. The first retirement stands.
 fn marked(p: Particle, sample: u64) -> Particle
     ensures { result ≡ retired_of sample p }
 {
-    let retirement = p.retirement;
-    let partials = p.partials;
-    let source = NO_SOURCE;
-    let at = first(retirement, sample);
-    Particle {
-        active: p.active,
-        source,
-        birth: p.birth,
-        lifetime: p.lifetime,
-        frequency_hz: p.frequency_hz,
-        octave: p.octave,
-        width: p.width,
-        strength: p.strength,
-        attack: p.attack,
-        decay_power: p.decay_power,
-        partials,
-        retirement: Retired::At(at),
-    }
+    let mut out = p;
+    out.source = None;
+    out.retirement = Some(p.retirement.unwrap_or(sample));
+    out
 }
 
 fn retire_one(p: Particle, sample: u64) -> Particle
@@ -117,10 +84,8 @@ pub fn retire_all(particles: [Particle; MAX_PARTICLES], sample: u64) -> [Particl
 fn retire_bound_one(p: Particle, slot: usize, sample: u64) -> Particle
     ensures { result ≡ retire_bound_one slot sample p }
 {
-    if p.active {
-        if p.source == slot {
-            return marked(p, sample);
-        }
+    if p.active && p.source == Some(slot) {
+        return marked(p, sample);
     }
     p
 }
@@ -144,12 +109,10 @@ pub fn retire_bound(
 fn retune_one(p: Particle, slot: usize, hz: f32) -> Particle
     ensures { result ≡ retune_one slot hz p }
 {
-    if p.active {
-        if p.source == slot {
-            let mut out = p;
-            out.frequency_hz = hz;
-            return out;
-        }
+    if p.active && p.source == Some(slot) {
+        let mut out = p;
+        out.frequency_hz = hz;
+        return out;
     }
     p
 }

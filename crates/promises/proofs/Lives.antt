@@ -14,8 +14,8 @@ use lib.Ieee.{Float, le}
 use Rattle.sequences.specs.Pick.{pick, picked, passed, by-case}
 use Rattle.floats.specs.Names.{f64}
 use Rattle.pool.specs.declared.Particle.{Particle}
-use Rattle.pool.specs.declared.Retired.{Retired}
-use Rattle.pool.specs.declared.Retired.TheVariants.{Not, At}
+use Rattle.std.specs.Prelude.{Option, Some, None}
+use Rattle.std.specs.Option.{option_eq}
 use Rattle.pool.specs.Pool.{free_particle, first_retirement, retired_of, retire_one, retire_bound_one, retuned_of, retune_one}
 use Rattle.pool.specs.Vacancies.{free_place}
 use Rattle.pool.proofs.Lowest.{lowest-free, held_below}
@@ -50,22 +50,22 @@ keep : (p : Particle) → p.active ≡ true → living (life_of p) ≡ fate_of p
 keep p h = picked p.active (living (life_of p)) freed h
 
 -- ---- the engine's tests are those told
-faded-is : (e : Engine) (x : Retired) → retirement_of x e.clock.sample e.prepared.sample_rate ≡ faded e x
+faded-is : (e : Engine) (x : Option ℕ) → retirement_of x e.clock.sample e.prepared.sample_rate ≡ faded e x
 unfolding retirement_of seconds_of
-faded-is e Not = refl
-faded-is e (At since) = refl
+faded-is e None = refl
+faded-is e (Some since) = refl
 
 pub due-is : (e : Engine) (p : Particle) → due e (life_of p) ≡ due_of e.clock.sample e.prepared.sample_rate p
 unfolding due due_of seconds_of
 due-is e p = ap (λ (x : Float). le p.lifetime (age e (life_of p)) || le (f64 0x3ff0000000000000) x) (sym (faded-is e p.retirement))
 
-first-is : (x : Retired) (now : ℕ) → first_retired x now ≡ At (first_retirement x now)
-first-is Not now = refl
-first-is (At since) now = refl
+first-is : (x : Option ℕ) (now : ℕ) → first_retired x now ≡ Some (first_retirement x now)
+first-is None now = refl
+first-is (Some since) now = refl
 
 retired_life : (now : ℕ) (p : Particle) → retired_at now (life_of p) ≡ life_of (retired_of now p)
 unfolding retired_of
-retired_life now p = ap (λ (r : Retired). record { birth = p.birth; lifetime = p.lifetime; source = 256; retired = r }) (first-is p.retirement now)
+retired_life now p = ap (λ (r : Option ℕ). record { birth = p.birth; lifetime = p.lifetime; source = None; retired = r }) (first-is p.retirement now)
 
 retired-told : (now : ℕ) (p : Particle) → p.active ≡ true → living (retired_at now (life_of p)) ≡ fate_of (retired_of now p)
 unfolding retired_of
@@ -92,8 +92,8 @@ unfolding told sweep_one retire_one retire_bound_one retune_one
 touched_told e (frame seconds) p h =
     swept_told p h (due e (life_of p)) ∙ ap (λ (b : Bool). fate_of (pick b free_particle p)) (due-is e p) ∙ ap fate_of (picked p.active _ p h)
 touched_told e retire p h = retired-told e.clock.sample p h ∙ ap fate_of (picked p.active _ p h)
-touched_told e (retire_bound slot) p h = bound-told e.clock.sample p h (eqb p.source slot) ∙ ap fate_of (picked p.active _ p h)
-touched_told e (retune slot hz) p h = retuned_told hz p h (eqb p.source slot) ∙ ap fate_of (picked p.active _ p h)
+touched_told e (retire_bound slot) p h = bound-told e.clock.sample p h (option_eq eqb p.source (Some slot)) ∙ ap fate_of (picked p.active _ p h)
+touched_told e (retune slot hz) p h = retuned_told hz p h (option_eq eqb p.source (Some slot)) ∙ ap fate_of (picked p.active _ p h)
 touched_told e (birth index own) p h = keep p h
 touched_told e (source slot s) p h = keep p h
 touched_told e (streams ss) p h = keep p h
@@ -121,23 +121,19 @@ untouched e (settings c) p h = refl
 pub lowest-is : (e : Engine) → free_place e.particles < length e.particles → Lowest e (free_place e.particles)
 lowest-is e h = (lowest-free e.particles h, held_below e.particles)
 
-pub barred-is : (e : Engine) (index own : ℕ) → not (is_barred (chosen_for e index own) e.next.note_input_present) ≡ permitted e index own
-unfolding is_barred pick
-barred-is e index own = go (eqb (chosen_for e index own) 256)
-  where
-    go : (b : Bool) → not (pick b e.next.note_input_present false) ≡ not (b && e.next.note_input_present)
-    go true = refl
-    go false = refl
+pub barred-is : (e : Engine) (index : ℕ) (own : Option ℕ) → not (is_barred (chosen_for e index own) e.next.note_input_present) ≡ permitted e index own
+unfolding is_barred
+barred-is e index own = refl
 
 -- ---- a birth
 -- it took place i, and left the engine x
-pub record Taking (e : Engine) (index own : ℕ) (i : ℕ) (x : Engine) : Type 0 where
+pub record Taking (e : Engine) (index : ℕ) (own : Option ℕ) (i : ℕ) (x : Engine) : Type 0 where
   pub low : Lowest e i
   pub allowed : permitted e index own ≡ true
   pub inside : e.tally.attempts ≡ 64 → ⊥
   pub now_is : place x i ≡ newborn e index own
 
-module _ (e : Engine) (index own i : ℕ) where
+module _ (e : Engine) (index : ℕ) (own : Option ℕ) (i : ℕ) where
   abbrev Result : Engine → Type 0
   Result x = (place x i ≡ place e i) ⊎ Taking e index own i x
 
@@ -181,7 +177,7 @@ module _ (e : Engine) (index own i : ℕ) where
 -- a birth among the acts took place i
 pub record Newly (e : Engine) (a : Act) (i : ℕ) : Type 0 where
   pub index : ℕ
-  pub own : ℕ
+  pub own : Option ℕ
   pub is : a ≡ birth index own
   pub taking : Taking e index own i (act e a)
 

@@ -1,5 +1,6 @@
 -- The choice of a register: the laws of `pitch_laws` at every lawful rate, and every birth of every run inside the limits.
 use Prim.Native.Nat.{ℕ}
+use Rattle.std.specs.Prelude.{Option, None}
 use mathlib.Core.Path.{◌≡◌, sym, ap, ◌∙◌, subst}
 use mathlib.Core.List.{◌∷◌}
 use lib.Dec.{T}
@@ -33,16 +34,16 @@ top : (rate : Float) → Rate rate → Top (max_hz_of rate)
 top rate r = top_of rate (subst (λ (x : Float). T (lawful_rate x)) (sym (own-convert binary32 rate r.0)) r.1)
 
 -- ---- a birth
-rooted : (e : Engine) (index own : ℕ) → Sound e → Sounding e.sources own → Root (newborn e index own).frequency_hz
+rooted : (e : Engine) (index : ℕ) (own : Option ℕ) → Sound e → Sounding e.sources own → Root (newborn e index own).frequency_hz
 unfolding of_bits
 rooted e index own s o = let p = (birth-fit e index own s o).fair.pitched in (p.hz_fits, p.hz_above, p.hz_finite)
 
 -- its register where the shape is Sprinkle, and its frequency where it is the Cloud and there is no source
-octave-is : (e : Engine) (index own : ℕ) → e.config.shape ≡ Sprinkle → (newborn e index own).octave ≡ (register_of index (newborn e index own).frequency_hz (max_hz_of (sample_rate_of e)) e.config.direction).octave
+octave-is : (e : Engine) (index : ℕ) (own : Option ℕ) → e.config.shape ≡ Sprinkle → (newborn e index own).octave ≡ (register_of index (newborn e index own).frequency_hz (max_hz_of (sample_rate_of e)) e.config.direction).octave
 unfolding newborn_for newborn_of register_by
 octave-is e index own q = ap (λ (s : Shape). (register_by s index (newborn e index own).frequency_hz (max_hz_of (sample_rate_of e)) e.config.direction).octave) q
 
-free-is : (e : Engine) (index own : ℕ) → e.config.shape ≡ Cloud → chosen_for e index own ≡ 256 → (newborn e index own).frequency_hz ≡ frequency_of index (max_hz_of (sample_rate_of e))
+free-is : (e : Engine) (index : ℕ) (own : Option ℕ) → e.config.shape ≡ Cloud → chosen_for e index own ≡ None → (newborn e index own).frequency_hz ≡ frequency_of index (max_hz_of (sample_rate_of e))
 unfolding newborn_for newborn_of voice_for free_voice_of free_hz_of pick
 free-is e index own q z = rw (z, q)
 

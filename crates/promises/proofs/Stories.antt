@@ -14,8 +14,8 @@ use Rattle.floats.specs.Word.{grown}
 use Rattle.sequences.specs.Pick.{pick, picked, passed, by-case}
 use Rattle.sequences.specs.First.{first-is}
 use Rattle.pool.specs.declared.Particle.{Particle}
-use Rattle.pool.specs.declared.Retired.{Retired}
-use Rattle.pool.specs.declared.Retired.TheVariants.{Not, At}
+use Rattle.std.specs.Prelude.{Option, Some, None}
+use Rattle.std.specs.Option.{option_eq}
 use Rattle.pool.specs.Pool.{free_particle}
 use Rattle.pool.specs.Vacancies.{is_free, free_place}
 use Rattle.pool.proofs.Lowest.{held_below}
@@ -88,7 +88,7 @@ frees-only : (e : Engine) (a : Act) (l : Life) → told e a l ≡ freed → DueA
 unfolding told
 frees-only e (frame seconds) l q = record { seconds = seconds; is = refl; when = frame-due e l q }
 frees-only e retire l q = never (retired_at e.clock.sample l) q
-frees-only e (retire_bound slot) l q = never (pick (eqb l.source slot) (retired_at e.clock.sample l) l) q
+frees-only e (retire_bound slot) l q = never (pick (option_eq eqb l.source (Some slot)) (retired_at e.clock.sample l) l) q
 frees-only e (birth index own) l q = never l q
 frees-only e (retune slot hz) l q = never l q
 frees-only e (source slot s) l q = never l q
@@ -99,9 +99,9 @@ frees-only e (weights ws) l q = never l q
 frees-only e (settings c) l q = never l q
 
 -- ---- fixed
-stands : (r : ℕ) (x : Retired) (now : ℕ) → x ≡ At r → first_retired x now ≡ At r
-stands r Not now q = absurd (let z : ◌≡◌ {A = ℕ} 0 1 = cc in omega arith)
-stands r (At since) now q = q
+stands : (r : ℕ) (x : Option ℕ) (now : ℕ) → x ≡ Some r → first_retired x now ≡ Some r
+stands r None now q = absurd (let z : ◌≡◌ {A = ℕ} 0 1 = cc in omega arith)
+stands r (Some since) now q = q
 
 same : (l l' : Life) → living l ≡ living l' → Fixed l l'
 same l l' q = let p : l ≡ l' = cc in subst (λ (x : Life). Fixed l x) p (refl, refl, λ r h. h)
@@ -118,8 +118,8 @@ fixed-one e (frame seconds) l l' q =
     by-case (due e l) (λ y. absurd (not_living l' (picked (due e l) freed (living l) y ∙ q))) (λ n. same l l' (passed (due e l) freed (living l) n ∙ q))
 fixed-one e retire l l' q = marked e.clock.sample l l' q
 fixed-one e (retire_bound slot) l l' q =
-    by-case (eqb l.source slot) (λ y. marked e.clock.sample l l' (ap living (picked (eqb l.source slot) (retired_at e.clock.sample l) l y) ∙ q))
-    (λ n. same l l' (ap living (passed (eqb l.source slot) (retired_at e.clock.sample l) l n) ∙ q))
+    by-case (option_eq eqb l.source (Some slot)) (λ y. marked e.clock.sample l l' (ap living (picked (option_eq eqb l.source (Some slot)) (retired_at e.clock.sample l) l y) ∙ q))
+    (λ n. same l l' (ap living (passed (option_eq eqb l.source (Some slot)) (retired_at e.clock.sample l) l n) ∙ q))
 fixed-one e (birth index own) l l' q = same l l' q
 fixed-one e (retune slot hz) l l' q = same l l' q
 fixed-one e (source slot s) l l' q = same l l' q
@@ -238,15 +238,15 @@ below_not n h = ne_eqb n 64 (λ q. absurd (omega (arith, q)))
 pub moved_on : (n : ℕ) → n ≡ grown n → ⊥
 moved_on n h = omega arith
 
-open_to : (e : Engine) (index own : ℕ) → permitted e index own ≡ true → is_barred (chosen_for e index own) e.next.note_input_present ≡ false
+open_to : (e : Engine) (index : ℕ) (own : Option ℕ) → permitted e index own ≡ true → is_barred (chosen_for e index own) e.next.note_input_present ≡ false
 open_to e index own p = go (is_barred (chosen_for e index own) e.next.note_input_present) (barred-is e index own ∙ p)
   where
     go : (b : Bool) → not b ≡ true → b ≡ false
     go true q = absurd (true≢false (sym q))
     go false q = refl
 
-module _ (e : Engine) (len : length e.particles ≡ 64) (index own : ℕ) (a : eqb e.tally.attempts 64 ≡ false) (p : permitted e index own ≡ true) where
-  abbrev slot : ℕ
+module _ (e : Engine) (len : length e.particles ≡ 64) (index : ℕ) (own : Option ℕ) (a : eqb e.tally.attempts 64 ≡ false) (p : permitted e index own ≡ true) where
+  abbrev slot : Option ℕ
   slot = chosen_for e index own
 
   -- the attempt is counted

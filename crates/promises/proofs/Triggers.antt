@@ -2,10 +2,11 @@
 use Rattle.std.specs.Prelude.{Ok, Err}
 use Prim.Native.Nat.{ℕ, ◌<◌, ◌≤◌, ◌^◌}
 use native.Mathlib.Omega.{arith}
-use mathlib.Core.Path.{◌≡◌, sym, ap, ◌∙◌, subst}
+use mathlib.Core.Path.{◌≡◌, refl, sym, ap, ◌∙◌, subst}
 use mathlib.Core.Bool.{true, false, ◌||◌, true≢false}
 use denote.Floats.{passes}
 use borrow.Author.Tests.{ne_eqb, eq-eqb, ltb-true, ltb-false}
+use Rattle.std.specs.Prelude.{Some}
 use lib.Bits.{bit_xor}
 use lib.Dec.{eqb, ltb}
 use lib.Ieee.Bits.{is_true}
@@ -56,39 +57,36 @@ module _ (e : Engine) (len : Places e) where
 
 -- ---- the birth of a trigger, whose source is its own slot
 module _ (e : Engine) (len : Places e) (slot index : ℕ) (s : ltb slot 256 ≡ true) where
-  own : chosen_for e index slot ≡ slot
+  allowed : permitted e index (Some slot) ≡ true
   unfolding chosen_for
-  own = sym (picked (ltb slot 256) slot _ s)
+  allowed = refl
 
-  allowed : permitted e index slot ≡ true
-  allowed = rw (own, ne_eqb slot 256 (λ q. let l : slot < 256 = ltb-true _ _ s in omega arith))
-
-  worn_out : eqb e.tally.attempts 64 ≡ true → (born_of e index slot).tally.dropped ≡ grown e.tally.dropped
+  worn_out : eqb e.tally.attempts 64 ≡ true → (born_of e index (Some slot)).tally.dropped ≡ grown e.tally.dropped
   unfolding born_of attempted_of
   worn_out a = ap (λ (x : Engine). x.tally.dropped) (sym (picked (eqb e.tally.attempts 64) _ _ a))
 
-  birth-answers : (outcome_of e (born_of e index slot)).outcome ≡ pick (eqb e.tally.attempts 64 || full e) (Ok Dropped) (Ok Born)
+  birth-answers : (outcome_of e (born_of e index (Some slot))).outcome ≡ pick (eqb e.tally.attempts 64 || full e) (Ok Dropped) (Ok Born)
   unfolding act pick born_one
   birth-answers =
-      by-case (eqb e.tally.attempts 64) (λ a. rw a (dropped-outcome e (born_of e index slot) (worn_out a)))
+      by-case (eqb e.tally.attempts 64) (λ a. rw a (dropped-outcome e (born_of e index (Some slot)) (worn_out a)))
       (λ a.
       by-case (ltb (free_place e.particles) 64)
-      (λ f. rw (a, not_full e len f) (born-outcome e (born_of e index slot) (sym (ap (λ (x : Engine). x.tally.dropped) (settled_so e len index slot a allowed f)))))
-      (λ f. rw (a, is-full e len f) (dropped-outcome e (born_of e index slot) (sym (ap (λ (x : Engine). x.tally.dropped) (dropped_so e len index slot a allowed f))))))
+      (λ f. rw (a, not_full e len f) (born-outcome e (born_of e index (Some slot)) (sym (ap (λ (x : Engine). x.tally.dropped) (settled_so e len index (Some slot) a allowed f)))))
+      (λ f. rw (a, is-full e len f) (dropped-outcome e (born_of e index (Some slot)) (sym (ap (λ (x : Engine). x.tally.dropped) (dropped_so e len index (Some slot) a allowed f))))))
 
-  birth_settles : (outcome_of e (born_of e index slot)).outcome ≡ Ok Born → Settled e index slot (born_of e index slot)
+  birth_settles : (outcome_of e (born_of e index (Some slot))).outcome ≡ Ok Born → Settled e index slot (born_of e index (Some slot))
   unfolding act pick newborn_for newborn_of
   birth_settles b =
-      by-case (eqb e.tally.attempts 64) (λ a. never (sym (dropped-outcome e (born_of e index slot) (worn_out a)) ∙ b))
+      by-case (eqb e.tally.attempts 64) (λ a. never (sym (dropped-outcome e (born_of e index (Some slot)) (worn_out a)) ∙ b))
       (λ a.
       by-case (ltb (free_place e.particles) 64)
       (λ f.
       let l = ltb-true _ _ f in
-      let there = placed e len index slot a allowed (free_place e.particles) l (free-at e len f) in
+      let there = placed e len index (Some slot) a allowed (free_place e.particles) l (free-at e len f) in
       record { at = free_place e.particles; inside = l; free = free-at e len f; stands = there; held = ap (λ p. p.active) there })
-      (λ f. never (sym (dropped-outcome e (born_of e index slot) (sym (ap (λ (x : Engine). x.tally.dropped) (dropped_so e len index slot a allowed f)))) ∙ b)))
+      (λ f. never (sym (dropped-outcome e (born_of e index (Some slot)) (sym (ap (λ (x : Engine). x.tally.dropped) (dropped_so e len index (Some slot) a allowed f)))) ∙ b)))
     where
-      never : ◌≡◌ {A = Fired} (Ok Dropped) (Ok Born) → Settled e index slot (born_of e index slot)
+      never : ◌≡◌ {A = Fired} (Ok Dropped) (Ok Born) → Settled e index slot (born_of e index (Some slot))
       never q = absurd (let z : ◌≡◌ {A = ℕ} 0 1 = cc in omega arith)
 
 -- ---- the calls
@@ -100,7 +98,7 @@ module _ (e : Engine) (len : Places e) (slot index : ℕ) where
       (λ s. by-case (is_permitted e slot) (λ p. rw (s, p) (birth-answers e len slot (bit_xor index (2 ^ 63)) s)) (λ p. rw (s, p)))
       (λ s. rw s)
 
-  fired_engine : ltb slot 256 ≡ true → is_permitted e slot ≡ true → born_of e (bit_xor index (2 ^ 63)) slot ≡ (triggered_by e slot index).engine
+  fired_engine : ltb slot 256 ≡ true → is_permitted e slot ≡ true → born_of e (bit_xor index (2 ^ 63)) (Some slot) ≡ (triggered_by e slot index).engine
   unfolding acts_of trigger_acts perform act applied pick
   fired_engine s p = rw (s, p) at (calls_are_acts e (reserved slot index))
 

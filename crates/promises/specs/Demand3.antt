@@ -1,9 +1,8 @@
 -- DEMAND 3, as it is promised: of every beginning, every list of typed calls, and every moment of it, between two births of one sample too; and once more over calls alone, as the demand is worded.
 -- Its terms (`place`, `Held`, `Life`, `due`, `told`, `story`) are those of Life.antt, runs those of Runs.antt; an act is a part of a call.
-use Rattle.std.specs.Prelude.{ℕ, ◌-◌, ◌<◌, ◌≡◌, ◌↔◌, true, false, List, [], ◌∷◌, ◌++◌, T, Float}
+use Rattle.std.specs.Prelude.{ℕ, ◌-◌, ◌<◌, ◌≡◌, ◌↔◌, true, false, List, [], ◌∷◌, ◌++◌, T, Float, Option, Some}
 use Rattle.std.specs.Float.Ieee.{le}
 use Rattle.floats.specs.Names.{f64}
-use Rattle.pool.specs.declared.Retired.TheVariants.{At}
 use Rattle.pool.specs.Pool.{free_particle}
 use Rattle.state.specs.declared.Engine.{Engine}
 use Rattle.floats.specs.Word.{grown}
@@ -21,7 +20,7 @@ Lowest e i = ((place e i).active ≡ false) × ((j : ℕ) → j < i → Held e j
 pub record Born (e : Engine) (acts : List Act) (i : ℕ) (l : Life) : Type 0 where
   pub before : List Act
   pub index : ℕ
-  pub own : ℕ
+  pub own : Option ℕ
   pub after : List Act
   pub split : acts ≡ before ++ birth index own ∷ after
   pub lowest : Lowest (perform e before) i
@@ -50,7 +49,7 @@ pub record DueFrame (e : Engine) (c : Call) (l : Life) : Type 0 where
 -- ---- at a moment
 -- the same birth, the same lifetime and, where there was one, the same first retirement
 abbrev pub Fixed : Life → Life → Type 0
-Fixed l l' = (l'.birth ≡ l.birth) × (l'.lifetime ≡ l.lifetime) × ((r : ℕ) → l.retired ≡ At r → l'.retired ≡ At r)
+Fixed l l' = (l'.birth ≡ l.birth) × (l'.lifetime ≡ l.lifetime) × ((r : ℕ) → l.retired ≡ Some r → l'.retired ≡ Some r)
 
 -- Of a moment e of a run: the acts up to it led from the engine `start`, which holds no place.
 pub record AtMoment (start : Engine) (acts : List Act) (e : Engine) : Type 0 where
@@ -59,7 +58,7 @@ pub record AtMoment (start : Engine) (acts : List Act) (e : Engine) : Type 0 whe
   pub at_most_ten : (i : ℕ) → Held e i → T (le (place e i).lifetime (f64 0x4024000000000000))
   -- no birth and no retirement lies after the sample: the differences in `age` and `faded` are plain ones
   pub past : (i : ℕ) → Held e i → elapsed_of (place e i).birth e.clock.sample ≡ e.clock.sample - (place e i).birth
-  pub faded_since : (i : ℕ) → Held e i → (r : ℕ) → (place e i).retirement ≡ At r → elapsed_of r e.clock.sample ≡ e.clock.sample - r
+  pub faded_since : (i : ℕ) → Held e i → (r : ℕ) → (place e i).retirement ≡ Some r → elapsed_of r e.clock.sample ≡ e.clock.sample - r
   -- nothing changes a birth, a lifetime or a first retirement
   pub fixed : (later : List Act) (l l' : Life) → story e later l ≡ living l' → Fixed l l'
   -- over any later acts it keeps its place as long as no frame found it due
@@ -71,9 +70,9 @@ pub record AtMoment (start : Engine) (acts : List Act) (e : Engine) : Type 0 whe
   -- no call but an accepted frame frees
   pub only : (c : Call) (l : Life) → story e (acts_of e c) l ≡ freed → DueFrame e c l
   -- a permitted birth inside the attempt limit is dropped exactly when all 64 places are held, and otherwise has the lowest free place
-  pub dropped : (index own : ℕ) → e.tally.attempts < 64 → permitted e index own ≡ true
+  pub dropped : (index : ℕ) (own : Option ℕ) → e.tally.attempts < 64 → permitted e index own ≡ true
       → ((act e (birth index own)).tally.dropped ≡ grown e.tally.dropped) ↔ ((i : ℕ) → i < 64 → Held e i)
-  pub placed : (index own : ℕ) → e.tally.attempts < 64 → permitted e index own ≡ true → (i : ℕ) → i < 64 → Lowest e i
+  pub placed : (index : ℕ) (own : Option ℕ) → e.tally.attempts < 64 → permitted e index own ≡ true → (i : ℕ) → i < 64 → Lowest e i
       → place (act e (birth index own)) i ≡ newborn e index own
 
 -- ---- over calls

@@ -1,6 +1,6 @@
 -- THE CHOICE OF A REGISTER, as it is promised. The Rust guards Sprinkle's range of octaves against holding none or one, and against a top below 40 Hz, and the free Cloud's against ending
 -- within its ramp. At a lawful sample rate none of these comes, so our definitions have no such guards, and answer what the Rust's text with all of them does (`Guarded.antt` of `pitch_laws`).
-use Rattle.std.specs.Prelude.{ℕ, ◌≡◌, ◌⊎◌, List, ◌∷◌, ◌++◌, T, Float}
+use Rattle.std.specs.Prelude.{ℕ, ◌≡◌, ◌⊎◌, List, ◌∷◌, ◌++◌, T, Float, Option, None}
 use Rattle.std.specs.Float.Ieee.{lt, le}
 use Rattle.std.specs.Float.Ieee.Scale.{finite}
 use Rattle.floats.specs.Names.{f32, sub32, zero32, Single}
@@ -58,9 +58,9 @@ pub record RegisterChoice : Type 0 where
   pub register : (maxHz root : Float) → High maxHz → Single root → (index : ℕ) (direction : Direction) → register_of index root maxHz direction ≡ guarded.register_of index root maxHz direction
   pub frequency : (maxHz : Float) → High maxHz → (index : ℕ) → frequency_of index maxHz ≡ guarded.frequency_of index maxHz
   -- so the octave of Sprinkle's particle, and the frequency of the Cloud's that has no source, are those with every guard
-  pub octave : (e : Engine) (index own : ℕ) → Rate (sample_rate_of e) → Single (newborn e index own).frequency_hz → e.config.shape ≡ Sprinkle
+  pub octave : (e : Engine) (index : ℕ) (own : Option ℕ) → Rate (sample_rate_of e) → Single (newborn e index own).frequency_hz → e.config.shape ≡ Sprinkle
       → (newborn e index own).octave ≡ (guarded.register_of index (newborn e index own).frequency_hz (max_hz_of (sample_rate_of e)) e.config.direction).octave
-  pub free : (e : Engine) (index own : ℕ) → Rate (sample_rate_of e) → e.config.shape ≡ Cloud → chosen_for e index own ≡ 256 → (newborn e index own).frequency_hz ≡ guarded.frequency_of index (max_hz_of (sample_rate_of e))
+  pub free : (e : Engine) (index : ℕ) (own : Option ℕ) → Rate (sample_rate_of e) → e.config.shape ≡ Cloud → chosen_for e index own ≡ None → (newborn e index own).frequency_hz ≡ guarded.frequency_of index (max_hz_of (sample_rate_of e))
   -- every birth of every run is inside the limits: the engine's rate is lawful, and the frequency of the birth's particle is above 0 and finite
-  pub births : (start : Engine) → Begins start → (cs : List Call) → AllTyped cs → (before after : List Act) (index own : ℕ) → history start cs ≡ before ++ birth index own ∷ after
+  pub births : (start : Engine) → Begins start → (cs : List Call) → AllTyped cs → (before after : List Act) (index : ℕ) (own : Option ℕ) → history start cs ≡ before ++ birth index own ∷ after
       → Rate (sample_rate_of (perform start before)) × Root (newborn (perform start before) index own).frequency_hz

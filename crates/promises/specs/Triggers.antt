@@ -1,5 +1,5 @@
 -- What a trigger answers, as demand 1 has it: the tests one after the other, and where the new particle stands. Definitions only.
-use Rattle.std.specs.Prelude.{ℕ, ◌<◌, ◌≡◌, Bool, not, ◌||◌, eqb, length, Ok, Err}
+use Rattle.std.specs.Prelude.{ℕ, ◌<◌, ◌≡◌, Bool, not, ◌||◌, eqb, length, Ok, Err, Some}
 use Rattle.sequences.specs.All.{all}
 use Rattle.sequences.specs.Pick.{pick}
 use Rattle.refusals.specs.declared.Refusal.TheVariants.{Slot}
@@ -30,5 +30,5 @@ pub record Settled (e : Engine) (index slot : ℕ) (after : Engine) : Type 0 whe
   pub at : ℕ
   pub inside : at < 64
   pub free : Lowest e at
-  pub stands : place after at ≡ newborn e index slot
+  pub stands : place after at ≡ newborn e index (Some slot)
   pub held : Held after at

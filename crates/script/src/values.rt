@@ -3,15 +3,15 @@ ghost use Rattle.std.specs.Prelude.{◌≡◌};
 ghost use Rattle.script.specs.Table.{config_of, lawful_config};
 
 use big_endian::{be32_at, byte, f32_at, flag_at, up_to};
-use settings::Config;
+use settings::{Config, Direction, Shape};
 
 pub fn config_of(v: &[u8]) -> Config
     ensures { result ≡ config_of v.now }
 {
     Config {
         enabled: flag_at(v, 0),
-        shape: settings::shape_from(byte(v, 1) as u32),
-        direction: settings::direction_from(byte(v, 2) as u32),
+        shape: Shape::from(byte(v, 1) as u32),
+        direction: Direction::from(byte(v, 2) as u32),
         rate_hz: f32_at(v, 3),
         size_octaves: f32_at(v, 7),
         phase: f32_at(v, 11),

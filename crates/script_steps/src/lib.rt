@@ -36,7 +36,7 @@ pub fn fresh() -> Run
     let engine = made.engine;
     Run {
         engine,
-        frame: windows::empty_frame(),
+        frame: Frame::default(),
     }
 }
 

@@ -4,7 +4,7 @@ ghost use Rattle.big_endian.specs.Bytes.{bytes16, bytes64, single, flag};
 ghost use Rattle.script_writer.specs.Encoded.{held32, config_bytes};
 
 use big_endian::{bytes16, bytes32, bytes64, flag, single};
-use settings::{Config, direction_number, shape_number};
+use settings::Config;
 
 // A number of the form: what it cannot hold is written as the greatest that it can.
 fn held(n: usize) -> u32
@@ -28,8 +28,8 @@ pub fn config_value(c: Config) -> [u8; 37]
     let release = single(c.release_ms);
     [
         flag(c.enabled),
-        shape_number(shape),
-        direction_number(direction),
+        u8::from(shape),
+        u8::from(direction),
         rate[0],
         rate[1],
         rate[2],

@@ -4,44 +4,50 @@ ghost use Rattle.settings.specs.ByNumber.{shape_number, direction_number, shape_
 
 use crate::{Direction, Shape};
 
-pub fn shape_number(s: Shape) -> u8
-    ensures { result ≡ shape_number s }
-{
-    match s {
-        Shape::Sprinkle => 0,
-        Shape::Cloud => 1,
+impl From<Shape> for u8 {
+    ghost from_gives = { λ s n. n ≡ shape_number s };
+
+    fn from(s: Shape) -> u8 {
+        match s {
+            Shape::Sprinkle => 0,
+            Shape::Cloud => 1,
+        }
     }
 }
 
-pub fn direction_number(d: Direction) -> u8
-    ensures { result ≡ direction_number d }
-{
-    match d {
-        Direction::Forward => 0,
-        Direction::Reverse => 1,
-        Direction::Alternate => 2,
+impl From<Direction> for u8 {
+    ghost from_gives = { λ d n. n ≡ direction_number d };
+
+    fn from(d: Direction) -> u8 {
+        match d {
+            Direction::Forward => 0,
+            Direction::Reverse => 1,
+            Direction::Alternate => 2,
+        }
     }
 }
 
 // 0 is Sprinkle, all else Cloud.
-pub fn shape_from(n: u32) -> Shape
-    ensures { result ≡ shape_from n }
-{
-    if n == 0 {
-        return Shape::Sprinkle;
+impl From<u32> for Shape {
+    ghost from_gives = { λ n s. s ≡ shape_from n };
+
+    fn from(n: u32) -> Shape {
+        match n {
+            0 => Shape::Sprinkle,
+            _ => Shape::Cloud,
+        }
     }
-    Shape::Cloud
 }
 
 // 0 is forward, 1 reverse, all else alternate.
-pub fn direction_from(n: u32) -> Direction
-    ensures { result ≡ direction_from n }
-{
-    if n == 0 {
-        return Direction::Forward;
+impl From<u32> for Direction {
+    ghost from_gives = { λ n d. d ≡ direction_from n };
+
+    fn from(n: u32) -> Direction {
+        match n {
+            0 => Direction::Forward,
+            1 => Direction::Reverse,
+            _ => Direction::Alternate,
+        }
     }
-    if n == 1 {
-        return Direction::Reverse;
-    }
-    Direction::Alternate
 }

@@ -11,20 +11,19 @@ mod by_number;
 mod envelopes;
 mod mending;
 
-pub use by_number::{direction_from, direction_number, shape_from, shape_number};
 pub use envelopes::{Contour, envelope};
 pub use mending::{MAX_PARTIALS, mended};
 
 // Added by 01: a larger hop is refused.
 pub const MAX_HOP_SAMPLES: usize = 16384;
 
-#[derive(Clone, Copy)]
+#[derive(Clone, Copy, PartialEq, Eq)]
 pub enum Shape {
     Sprinkle,
     Cloud,
 }
 
-#[derive(Clone, Copy)]
+#[derive(Clone, Copy, PartialEq, Eq)]
 pub enum Direction {
     Forward,
     Reverse,
@@ -55,29 +54,28 @@ pub struct Config {
 pub fn is_sprinkle(shape: Shape) -> bool
     ensures { result ≡ is_sprinkle shape }
 {
-    match shape {
-        Shape::Sprinkle => true,
-        Shape::Cloud => false,
-    }
+    shape == Shape::Sprinkle
 }
 
-pub fn default_config() -> Config
-    ensures { result ≡ default_config }
-{
-    Config {
-        enabled: true,
-        shape: Shape::Sprinkle,
-        direction: Direction::Forward,
-        rate_hz: 1.0,
-        size_octaves: 1.0,
-        phase: 0.0,
-        scheduled: true,
-        sync: false,
-        hop_samples: 2048,
-        partials: 1,
-        partial_rolloff_db: 6.0,
-        attack_ms: 0.0,
-        release_ms: 70.0,
+impl Default for Config {
+    ghost is_default = { λ x. x ≡ default_config };
+
+    fn default() -> Config {
+        Config {
+            enabled: true,
+            shape: Shape::Sprinkle,
+            direction: Direction::Forward,
+            rate_hz: 1.0,
+            size_octaves: 1.0,
+            phase: 0.0,
+            scheduled: true,
+            sync: false,
+            hop_samples: 2048,
+            partials: 1,
+            partial_rolloff_db: 6.0,
+            attack_ms: 0.0,
+            release_ms: 70.0,
+        }
     }
 }
 
@@ -99,13 +97,5 @@ pub const MAX_RATE: f32 = 384000.0;
 pub fn lawful_rate(sample_rate: f32) -> bool
     ensures { result ≡ lawful_rate sample_rate }
 {
-    if floats::is_finite32(sample_rate) {
-        if sample_rate >= MIN_RATE {
-            sample_rate <= MAX_RATE
-        } else {
-            false
-        }
-    } else {
-        false
-    }
+    floats::is_finite32(sample_rate) && sample_rate >= MIN_RATE && sample_rate <= MAX_RATE
 }

@@ -1,27 +1,28 @@
--- The choice of a birth's source, line by line as the Rust has it. `no_slot` stands for its `None`. Definitions only.
-use Rattle.std.specs.Prelude.{ℕ, suc, ◌-◌, Bool, false, List, [], ◌∷◌, pos, eqb, ltb, Float}
+-- The choice of a birth's source, line by line as the Rust has it. Definitions only.
+use Rattle.std.specs.Prelude.{ℕ, suc, ◌-◌, Bool, not, ◌&&◌, List, [], ◌∷◌, pos, eqb, ltb, Float, Option, Some, None}
+use Rattle.std.specs.Option.{option_eq}
 use Rattle.std.specs.Float.{binary32}
 use Rattle.std.specs.Float.Ieee.{of_int, to_unsigned}
 use Rattle.sequences.specs.Pick.{pick}
 use Rattle.sequences.specs.Walk.{count}
 use Rattle.floats.specs.Names.{mul32}
 use Rattle.sources.specs.declared.Source.{Source}
-use Rattle.sources.specs.Sources.{is_eligible, no_slot}
+use Rattle.sources.specs.Sources.{is_eligible}
 
 -- s.eligible() && Some(*i) != self.last_source
-unfoldable pub is_alternative : ℕ → ℕ → Source → Bool
-is_alternative last i s = pick (eqb i last) false (is_eligible s)
+unfoldable pub is_alternative : Option ℕ → ℕ → Source → Bool
+is_alternative last i s = is_eligible s && not (option_eq eqb (Some i) last)
 
 -- .filter(eligible).count()
-abbrev pub alternatives_of : ℕ → List Source → ℕ
+abbrev pub alternatives_of : Option ℕ → List Source → ℕ
 alternatives_of last = count (is_alternative last)
 
 -- .filter(eligible).nth(n), of the sources from slot i on
-unfoldable pub nth_from : ℕ → ℕ → List Source → ℕ → ℕ
-nth_from last i [] n = i
-nth_from last i (s ∷ ss) n = pick (is_alternative last i s) (pick (eqb n 0) i (nth_from last (suc i) ss (n - 1))) (nth_from last (suc i) ss n)
+unfoldable pub nth_from : Option ℕ → ℕ → List Source → ℕ → Option ℕ
+nth_from last i [] n = None
+nth_from last i (s ∷ ss) n = pick (is_alternative last i s) (pick (eqb n 0) (Some i) (nth_from last (suc i) ss (n - 1))) (nth_from last (suc i) ss n)
 
-abbrev pub nth_of : ℕ → List Source → ℕ → ℕ
+abbrev pub nth_of : Option ℕ → List Source → ℕ → Option ℕ
 nth_of last ss n = nth_from last 0 ss n
 
 -- ((random(index, 1) * alternatives as f32) as usize).min(alternatives - 1)
@@ -30,8 +31,8 @@ choice_of draw n =
     let at = to_unsigned 64 (mul32 draw (of_int binary32 (pos n))) in
     pick (ltb (n - 1) at) (n - 1) at
 
--- if alternatives == 0 { position(eligible) } else { nth(choice) }; every slot is another than `no_slot`
-unfoldable pub chosen_of : ℕ → List Source → Float → ℕ
+-- if alternatives == 0 { position(eligible) } else { nth(choice) }
+unfoldable pub chosen_of : Option ℕ → List Source → Float → Option ℕ
 chosen_of last ss draw =
     let n = alternatives_of last ss in
-    pick (eqb n 0) (nth_of no_slot ss 0) (nth_of last ss (choice_of draw n))
+    pick (eqb n 0) (nth_of None ss 0) (nth_of last ss (choice_of draw n))

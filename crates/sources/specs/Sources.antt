@@ -1,17 +1,14 @@
 -- The source slots, line by line as the Rust has them. Definitions only.
-use Rattle.std.specs.Prelude.{ℕ, Bool, false, not, Float}
+use Rattle.std.specs.Prelude.{ℕ, Bool, false, not, ◌&&◌, Float}
 use Rattle.std.specs.Float.Ieee.{lt, eq}
 use Rattle.std.specs.Float.Ieee.Scale.{finite}
 use Rattle.sequences.specs.Pick.{pick}
 use Rattle.floats.specs.Names.{f32}
 use Rattle.sources.specs.declared.Source.{Source}
 
--- MAX_SOURCES; as a slot's number it stands for the Rust's `None`
+-- MAX_SOURCES
 abbrev pub max_sources : ℕ
 max_sources = 256
-
-abbrev pub no_slot : ℕ
-no_slot = 256
 
 -- Source::default()
 abbrev pub no_source : Source
@@ -22,7 +19,7 @@ abbrev pub same_flag : Bool → Bool → Bool
 same_flag a b = pick a b (not b)
 
 unfoldable pub same : Source → Source → Bool
-same a b = pick (eq a.frequency_hz b.frequency_hz) (pick (eq a.strength b.strength) (same_flag a.eligible b.eligible) false) false
+same a b = eq a.frequency_hz b.frequency_hz && (eq a.strength b.strength && same_flag a.eligible b.eligible)
 
 -- x.is_finite() && x > 0.0
 unfoldable pub is_pitched : Float → Bool

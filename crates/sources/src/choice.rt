@@ -2,16 +2,16 @@
 ghost use Rattle.std.specs.Prelude.{◌≡◌, ◌<◌};
 ghost use Rattle.sources.specs.Choosing.{is_alternative, alternatives_of, nth_of, choice_of, chosen_of};
 
-use crate::{MAX_SOURCES, NO_SOURCE, Source};
+use crate::{MAX_SOURCES, Source};
 
 // One that may be chosen after `last`.
-fn alternative(i: usize, s: Source, last: usize) -> bool
+fn alternative(i: usize, s: Source, last: Option<usize>) -> bool
     ensures { result ≡ is_alternative last i s }
 {
-    if i == last { false } else { crate::eligible(s) }
+    crate::eligible(s) && Some(i) != last
 }
 
-fn alternatives(sources: [Source; MAX_SOURCES], last: usize) -> usize
+fn alternatives(sources: [Source; MAX_SOURCES], last: Option<usize>) -> usize
     ensures { result ≡ alternatives_of last sources }
 {
     let mut n: usize = 0;
@@ -24,8 +24,8 @@ fn alternatives(sources: [Source; MAX_SOURCES], last: usize) -> usize
     n
 }
 
-// The slot of the n-th alternative, counted from 0; no source where there are no more.
-fn nth(sources: [Source; MAX_SOURCES], last: usize, n: usize) -> usize
+// The slot of the n-th alternative, counted from 0; none where there are no more.
+fn nth(sources: [Source; MAX_SOURCES], last: Option<usize>, n: usize) -> Option<usize>
     ensures { result ≡ nth_of last sources n }
 {
     let mut left = n;
@@ -33,12 +33,12 @@ fn nth(sources: [Source; MAX_SOURCES], last: usize, n: usize) -> usize
         let s = sources[i];
         if alternative(i, s, last) {
             if left == 0 {
-                return i;
+                return Some(i);
             }
             left -= 1;
         }
     }
-    NO_SOURCE
+    None
 }
 
 // Which of n alternatives a draw takes.
@@ -54,12 +54,12 @@ fn choice(draw: f32, n: usize) -> usize
 }
 
 // By the draw an eligible source other than the last one, else the first eligible one, else none.
-pub fn choose(sources: [Source; MAX_SOURCES], last: usize, draw: f32) -> usize
+pub fn choose(sources: [Source; MAX_SOURCES], last: Option<usize>, draw: f32) -> Option<usize>
     ensures { result ≡ chosen_of last sources draw }
 {
     let n = alternatives(sources, last);
     if n == 0 {
-        return nth(sources, NO_SOURCE, 0);
+        return nth(sources, None, 0);
     }
     nth(sources, last, choice(draw, n))
 }

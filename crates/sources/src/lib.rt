@@ -11,10 +11,7 @@ pub use choice::choose;
 // A slot's number is below this.
 pub const MAX_SOURCES: usize = 256;
 
-// Stands for no source, where a slot's number could stand.
-pub const NO_SOURCE: usize = 256;
-
-#[derive(Clone, Copy)]
+#[derive(Clone, Copy, PartialEq)]
 pub struct Source {
     pub frequency_hz: f32,
     // Resolved velocity sensitivity, bounded to unity at a birth.
@@ -22,54 +19,36 @@ pub struct Source {
     pub eligible: bool,
 }
 
-pub fn no_source() -> Source
-    ensures { result ≡ no_source }
-{
-    Source {
-        frequency_hz: 0.0,
-        strength: 0.0,
-        eligible: false,
+impl Default for Source {
+    ghost is_default = { λ x. x ≡ no_source };
+
+    fn default() -> Source {
+        Source {
+            frequency_hz: 0.0,
+            strength: 0.0,
+            eligible: false,
+        }
     }
 }
 
-// Derived equality, written out: NaN differs from itself, and the zeros are equal.
+// NaN differs from itself, and the zeros are equal.
 pub fn same(a: Source, b: Source) -> bool
     ensures { result ≡ same a b }
 {
-    if a.frequency_hz == b.frequency_hz {
-        if a.strength == b.strength {
-            if a.eligible { b.eligible } else { !b.eligible }
-        } else {
-            false
-        }
-    } else {
-        false
-    }
+    a == b
 }
 
 // Finite and above 0.
 pub fn pitched(x: f32) -> bool
     ensures { result ≡ is_pitched x }
 {
-    if floats::is_finite32(x) {
-        x > 0.0
-    } else {
-        false
-    }
+    floats::is_finite32(x) && x > 0.0
 }
 
 pub fn eligible(s: Source) -> bool
     ensures { result ≡ is_eligible s }
 {
-    if s.eligible {
-        if pitched(s.frequency_hz) {
-            pitched(s.strength)
-        } else {
-            false
-        }
-    } else {
-        false
-    }
+    s.eligible && pitched(s.frequency_hz) && pitched(s.strength)
 }
 
 pub fn released(s: Source) -> Source

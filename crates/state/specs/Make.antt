@@ -1,5 +1,5 @@
 -- What follows from the sample rate, and an engine as it starts, line by line as the Rust has them. Definitions only.
-use Rattle.std.specs.Prelude.{◌+◌, false, List, [], ◌∷◌, replicate, pos, slice_index_or, Float}
+use Rattle.std.specs.Prelude.{◌+◌, false, List, [], ◌∷◌, replicate, pos, slice_index_or, Float, None}
 use Rattle.std.specs.Float.{nan, binary32}
 use Rattle.std.specs.Float.Ieee.{of_int, neg}
 use Rattle.sequences.specs.Table.{table}
@@ -11,7 +11,7 @@ use Rattle.pool.specs.declared.Particle.{Particle}
 use Rattle.pool.specs.Pool.{free_particle}
 use Rattle.settings.specs.Settings.{default_config}
 use Rattle.sources.specs.declared.Source.{Source}
-use Rattle.sources.specs.Sources.{no_source, max_sources, no_slot}
+use Rattle.sources.specs.Sources.{no_source, max_sources}
 use Rattle.timing.specs.Streams.{new_of}
 use Rattle.state.specs.declared.Engine.{Engine}
 use Rattle.state.specs.declared.Prepared.{Prepared}
@@ -52,7 +52,7 @@ new_on p =
       sources = no_sources;
       prepared = p;
       clock = record { sample = 0; phase = f64 0; phase_offset = f64 0 };
-      next = record { opportunity = 0; immediate_index = 0; last_source = no_slot; note_input_present = false };
+      next = record { opportunity = 0; immediate_index = 0; last_source = None; note_input_present = false };
       streams = new_of 0 false ∷ new_of 1 false ∷ new_of 2 false ∷ [];
       partial_weights = p.default_partial_weights;
       tally = record { attempts = 0; births = 0; dropped = 0; decision_hash = 0; held = 0 };

@@ -33,12 +33,12 @@ pub struct Clock {
 }
 
 // What the next births take: the Cloud's opportunity, a trigger's index, the slot that the last birth
-// chose (`NO_SOURCE` for none), and whether note input is present.
+// chose (`None` for none), and whether note input is present.
 #[derive(Clone, Copy)]
 pub struct Next {
     pub opportunity: u64,
     pub immediate_index: u64,
-    pub last_source: usize,
+    pub last_source: Option<usize>,
     pub note_input_present: bool,
 }
 

@@ -3,7 +3,9 @@ ghost use Rattle.std.specs.Prelude.{◌≡◌};
 ghost use Rattle.state.specs.Make.{partial_logs_of, weights_of, alpha_of, prepared_of, new_on};
 
 use crate::{Clock, Engine, Next, Prepared, Tally};
-use settings::MAX_PARTIALS;
+use pool::Particle;
+use settings::{Config, MAX_PARTIALS};
+use sources::Source;
 
 fn partial_logs() -> [f32; MAX_PARTIALS]
     ensures { result ≡ partial_logs_of }
@@ -56,9 +58,9 @@ pub fn from_prepared(prepared: Prepared) -> Engine
         timing::new_stream(1, false),
         timing::new_stream(2, false),
     ];
-    let config = settings::default_config();
-    let free = pool::free_particle();
-    let none = sources::no_source();
+    let config = Config::default();
+    let free = Particle::default();
+    let none = Source::default();
     let clock = Clock {
         sample: 0,
         phase: 0.0,
@@ -67,7 +69,7 @@ pub fn from_prepared(prepared: Prepared) -> Engine
     let next = Next {
         opportunity: 0,
         immediate_index: 0,
-        last_source: sources::NO_SOURCE,
+        last_source: None,
         note_input_present: false,
     };
     let tally = Tally {

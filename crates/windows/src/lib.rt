@@ -23,26 +23,26 @@ pub struct Frame {
     pub activity: f32,
 }
 
-// The Rust's `Window::default`.
-pub fn empty_window() -> Window
-    ensures { result ≡ empty_window }
-{
-    Window {
-        center_log2_hz: 0.0,
-        radius_octaves: 0.0,
-        amplitude: 0.0,
+impl Default for Window {
+    ghost is_default = { λ x. x ≡ empty_window };
+
+    fn default() -> Window {
+        Window {
+            center_log2_hz: 0.0,
+            radius_octaves: 0.0,
+            amplitude: 0.0,
+        }
     }
 }
 
-// The Rust's `Frame::default`.
-pub fn empty_frame() -> Frame
-    ensures { result ≡ empty_frame }
-{
-    let none = empty_window();
-    let windows = [none; 192];
-    Frame {
-        windows,
-        activity: 0.0,
+impl Default for Frame {
+    ghost is_default = { λ x. x ≡ empty_frame };
+
+    fn default() -> Frame {
+        Frame {
+            windows: [Window::default(); 192],
+            activity: 0.0,
+        }
     }
 }
 

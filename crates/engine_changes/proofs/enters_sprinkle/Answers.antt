@@ -1,21 +1,20 @@
 -- `enters_sprinkle` meets its contract: one test after the other.
-use Rattle.std.proofs.Common.{sym, refl, ◌∙◌}
-use Rattle.sequences.specs.Pick.{took, skipped}
 use Rattle.engine_changes.specs.Changes.{enters}
+use Rattle.engine_changes.proofs.Same.{entered}
 use Rattle.engine_changes.proofs.enters_sprinkle.Goals as goal
 
-pub returns-then-before : goal.returns-then-before
+pub returns-then-ne : goal.returns-then-ne
 unfolding enters
-returns-then-before c = took _ _ _ _ (sym c.is_sprinkle.ensures ∙ c.if-is_sprinkle.true) (took _ _ _ _ (sym c.is_sprinkle-then-is_sprinkle.ensures ∙ c.if-is_sprinkle-2.true) (took _ _ _ _ c.if-before.true refl))
+returns-then-ne c = let a = c.args.before in let b = c.args.after in rw (← entered a.shape b.shape a.enabled b.enabled, ← c.eq.ensures, c.if-eq.true, ← c.ne.ensures, c.if-ne.true)
 
-pub returns-else-before : goal.returns-else-before
+pub returns-then-not-before : goal.returns-then-not-before
 unfolding enters
-returns-else-before c = took _ _ _ _ (sym c.is_sprinkle.ensures ∙ c.if-is_sprinkle.true) (took _ _ _ _ (sym c.is_sprinkle-then-is_sprinkle.ensures ∙ c.if-is_sprinkle-2.true) (skipped _ _ _ _ c.if-before.false refl))
+returns-then-not-before c = let a = c.args.before in let b = c.args.after in rw (← entered a.shape b.shape a.enabled b.enabled, ← c.eq.ensures, c.if-eq.true, ← c.ne.ensures, c.if-ne.false, c.if-not-before.true)
 
-pub returns-else-is_sprinkle-2 : goal.returns-else-is_sprinkle-2
+pub returns-else-not-before : goal.returns-else-not-before
 unfolding enters
-returns-else-is_sprinkle-2 c = took _ _ _ _ (sym c.is_sprinkle.ensures ∙ c.if-is_sprinkle.true) (skipped _ _ _ _ (sym c.is_sprinkle-then-is_sprinkle.ensures ∙ c.if-is_sprinkle-2.false) refl)
+returns-else-not-before c = let a = c.args.before in let b = c.args.after in rw (← entered a.shape b.shape a.enabled b.enabled, ← c.eq.ensures, c.if-eq.true, ← c.ne.ensures, c.if-ne.false, c.if-not-before.false)
 
-pub returns-else-is_sprinkle : goal.returns-else-is_sprinkle
+pub returns-else-eq : goal.returns-else-eq
 unfolding enters
-returns-else-is_sprinkle c = skipped _ _ _ _ (sym c.is_sprinkle.ensures ∙ c.if-is_sprinkle.false) refl
+returns-else-eq c = let a = c.args.before in let b = c.args.after in rw (← entered a.shape b.shape a.enabled b.enabled, ← c.eq.ensures, c.if-eq.false)

@@ -2,6 +2,7 @@
 use Rattle.std.proofs.Common.{sym, refl, ap, ◌∙◌}
 use Rattle.sequences.specs.Pick.{took, skipped}
 use Rattle.engine_changes.specs.Changes.{restarted}
+use Rattle.sources.proofs.Flags.{flags}
 use Rattle.state.specs.State.{with_streams}
 use Rattle.engine_changes.proofs.restart.Goals as goal
 
@@ -9,10 +10,10 @@ pub returns-then-enters_sprinkle : goal.returns-then-enters_sprinkle
 unfolding restarted
 returns-then-enters_sprinkle c = took _ _ _ _ (sym c.enters_sprinkle.ensures ∙ c.if-enters_sprinkle.true) c.align_streams.ensures
 
-pub returns-then-same_flag : goal.returns-then-same_flag
+pub returns-then-before-after : goal.returns-then-before-after
 unfolding restarted
-returns-then-same_flag c = skipped _ _ _ _ (sym c.enters_sprinkle.ensures ∙ c.if-enters_sprinkle.false) (took _ _ _ _ (sym c.same_flag.ensures ∙ c.if-same_flag.true) refl)
+returns-then-before-after c = skipped _ _ _ _ (sym c.enters_sprinkle.ensures ∙ c.if-enters_sprinkle.false) (took _ _ _ _ (flags _ _ ∙ c.if-before-after.true) refl)
 
 pub returns : goal.returns
 unfolding restarted
-returns c = skipped _ _ _ _ (sym c.enters_sprinkle.ensures ∙ c.if-enters_sprinkle.false) (skipped _ _ _ _ (sym c.same_flag.ensures ∙ c.if-same_flag.false) (ap (with_streams c.args.engine) c.prepare_streams-prepared.ensures))
+returns c = skipped _ _ _ _ (sym c.enters_sprinkle.ensures ∙ c.if-enters_sprinkle.false) (skipped _ _ _ _ (flags _ _ ∙ c.if-before-after.false) (ap (with_streams c.args.engine) c.prepare_streams-prepared.ensures))

@@ -1,13 +1,12 @@
--- `same_kind` meets its contract: one test after the other.
-use Rattle.std.proofs.Common.{sym, refl, ◌∙◌}
-use Rattle.sequences.specs.Pick.{took, skipped}
+-- `same_kind` meets its contract: one test, then the other.
 use Rattle.engine_changes.specs.Changes.{same_kind}
+use Rattle.engine_changes.proofs.Same.{kinds}
 use Rattle.engine_changes.proofs.same_kind.Goals as goal
 
-pub returns-then-same_shape : goal.returns-then-same_shape
+pub returns-then-eq : goal.returns-then-eq
 unfolding same_kind
-returns-then-same_shape c = took _ _ _ _ (sym c.same_shape.ensures ∙ c.if-same_shape.true) c.same_flag.ensures
+returns-then-eq c = let a = c.args.before in let b = c.args.after in rw (← kinds a.shape b.shape a.enabled b.enabled, ← c.eq.ensures, c.if-eq.true)
 
-pub returns-else-same_shape : goal.returns-else-same_shape
+pub returns-else-eq : goal.returns-else-eq
 unfolding same_kind
-returns-else-same_shape c = skipped _ _ _ _ (sym c.same_shape.ensures ∙ c.if-same_shape.false) refl
+returns-else-eq c = let a = c.args.before in let b = c.args.after in rw (← kinds a.shape b.shape a.enabled b.enabled, ← c.eq.ensures, c.if-eq.false)

@@ -10,4 +10,4 @@ returns-then-slot-ge-MAX_SOURCES c = skipped _ _ _ _ (le-ltb _ _ c.if-slot-ge-MA
 
 pub returns : goal.returns
 unfolding retire_source_of
-returns c = took _ _ _ _ (lt-ltb _ _ c.if-slot-ge-MAX_SOURCES.false) (rw (c.take.ensures, c.retire_bound-retired.ensures, c.no_source-none.ensures))
+returns c = took _ _ _ _ (lt-ltb _ _ c.if-slot-ge-MAX_SOURCES.false) (rw (c.take.ensures, c.retire_bound-retired.ensures, c.default-none.ensures))

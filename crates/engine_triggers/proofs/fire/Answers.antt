@@ -7,19 +7,19 @@ use Rattle.engine_triggers.specs.Firing.{with_indexed}
 use Rattle.engine_triggers.proofs.Outcomes.{told_as}
 use Rattle.engine_triggers.proofs.fire.Goals as goal
 
-pub returns-then-place-lt-MAX_PARTICLES : goal.returns-then-place-lt-MAX_PARTICLES
+pub returns-in-Some : goal.returns-in-Some
 unfolding triggered_by is_permitted
-returns-then-place-lt-MAX_PARTICLES c =
+returns-in-Some c =
     let e = with_indexed c.args.engine c.args.after in
-    let stored = stored_placed e c.birth-arrival.result _ (born-by e _ _ _ c.birth-arrival.ensures) (lt-ltb _ _ c.if-place-lt-MAX_PARTICLES.true) in
+    let stored = stored_placed e c.birth-arrival.result _ (born-by e _ _ _ c.birth-arrival.ensures.is) _ c.in-Some.is in
     took _ _ _ _ (lt-ltb _ _ c.if-slot-lt-MAX_SOURCES.true) (took _ _ _ _ (sym c.permitted.ensures ∙ c.if-permitted.true)
     (told_as e _ _ _ c.became-outcome.ensures stored))
 
-pub returns-else-place-lt-MAX_PARTICLES : goal.returns-else-place-lt-MAX_PARTICLES
+pub returns-in_default : goal.returns-in_default
 unfolding triggered_by is_permitted
-returns-else-place-lt-MAX_PARTICLES c =
+returns-in_default c =
     let e = with_indexed c.args.engine c.args.after in
-    let stored = stored_away e c.birth-arrival.result _ (born-by e _ _ _ c.birth-arrival.ensures) (le-ltb _ _ c.if-place-lt-MAX_PARTICLES.false) in
+    let stored = stored_away e c.birth-arrival.result _ (born-by e _ _ _ c.birth-arrival.ensures.is) c.in_default.is in
     took _ _ _ _ (lt-ltb _ _ c.if-slot-lt-MAX_SOURCES.true) (took _ _ _ _ (sym c.permitted.ensures ∙ c.if-permitted.true)
     (told_as e _ _ _ c.became-outcome.ensures stored))
 

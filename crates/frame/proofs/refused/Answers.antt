@@ -4,4 +4,4 @@ use Rattle.frame.proofs.refused.Goals as goal
 
 pub returns : goal.returns
 unfolding refused_of
-returns c = rw c.empty_frame-frame.ensures
+returns c = rw c.default-frame.ensures

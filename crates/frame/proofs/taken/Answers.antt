@@ -18,7 +18,7 @@ pub loop-i-preserved : goal.loop-i-preserved
 loop-i-preserved c =
     let inv = c.loop-i.invariant in
     let m = inv.0 in
-    let free = c.free_particle-free.ensures in
+    let free = c.default-free.ensures in
     let freed = c.freed.ensures in
     elim c.if-freed.branch [
       | then-freed w ↦

@@ -4,4 +4,4 @@ use Rattle.oracle_probe.proofs.config_of.Goals as goal
 
 pub returns : goal.returns
 unfolding probed_config
-returns c = rw (c.direction_from-direction.ensures, c.shape_from-shape.ensures)
+returns c = rw (c.from-direction.ensures, c.from-shape.ensures)

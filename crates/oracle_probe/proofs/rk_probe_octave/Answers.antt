@@ -6,4 +6,4 @@ use Rattle.pitch.specs.Octave.{register_of}
 use Rattle.oracle_probe.proofs.rk_probe_octave.Goals as goal
 
 pub returns : goal.returns
-returns c = ap (λ (g : Register). g.octave) (c.sprinkle_register-register.ensures ∙ ap (λ (w : Direction). register_of c.args.index c.args.root_hz c.args.max_hz w) c.direction_from.ensures)
+returns c = ap (λ (g : Register). g.octave) (c.sprinkle_register-register.ensures ∙ ap (λ (w : Direction). register_of c.args.index c.args.root_hz c.args.max_hz w) c.from.ensures)

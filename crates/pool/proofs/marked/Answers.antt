@@ -1,7 +1,8 @@
--- `marked` meets its contract: the first retirement stands.
+-- `marked` meets its contract by computation.
+use borrow.Author.Rules.{rules}
 use Rattle.pool.specs.Pool.{retired_of}
 use Rattle.pool.proofs.marked.Goals as goal
 
 pub returns : goal.returns
 unfolding retired_of
-returns c = rw c.first-at.ensures
+returns c = search rules

@@ -1,18 +1,18 @@
 -- `retune_one` meets its contract: two tests.
-use mathlib.Core.Path.{refl}
+use mathlib.Core.Path.{refl, sym, ◌∙◌}
 use Rattle.sequences.specs.Pick.{took, skipped}
-use borrow.Author.Tests.{eq-eqb, ne_eqb}
 use Rattle.pool.specs.Pool.{retune_one, retuned_of}
 use Rattle.pool.proofs.retune_one.Goals as goal
+use Rattle.pool.proofs.retune_one.Goals.{else-p-via-then-p+else-eq, else-p-via-else-p}
 
-pub returns-then-p-slot : goal.returns-then-p-slot
+pub returns-then-eq : goal.returns-then-eq
 unfolding retune_one retuned_of
-returns-then-p-slot c = took _ _ _ _ c.if-p.true (took _ _ _ _ (eq-eqb _ _ c.if-p-slot.true) refl)
+returns-then-eq c = took _ _ _ _ c.if-p.true (took _ _ _ _ (sym c.eq.ensures ∙ c.if-eq.true) refl)
 
-pub returns-else-p-slot : goal.returns-else-p-slot
+pub returns : goal.returns
 unfolding retune_one retuned_of
-returns-else-p-slot c = took _ _ _ _ c.if-p.true (skipped _ _ _ _ (ne_eqb _ _ c.if-p-slot.false) refl)
-
-pub returns-else-p : goal.returns-else-p
-unfolding retune_one retuned_of
-returns-else-p c = skipped _ _ _ _ c.if-p.false refl
+returns c =
+    elim c.else-p.branch [
+      | else-p-via-then-p+else-eq w ↦ took _ _ _ _ w.if-p.true (skipped _ _ _ _ (sym w.eq.ensures ∙ w.if-eq.false) refl)
+      | else-p-via-else-p w ↦ skipped _ _ _ _ w.if-p.false refl
+    ]

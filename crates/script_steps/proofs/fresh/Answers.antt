@@ -4,4 +4,4 @@ use Rattle.script_steps.proofs.fresh.Goals as goal
 
 pub returns : goal.returns
 unfolding fresh
-returns c = rw (c.empty_frame.ensures, c.new_engine-made.ensures)
+returns c = rw (c.default.ensures, c.new_engine-made.ensures)

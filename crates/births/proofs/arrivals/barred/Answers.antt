@@ -1,13 +1,12 @@
--- `barred` meets its contract: one test.
-use Rattle.std.proofs.Common.{refl, eq-eqb, ne_eqb}
-use Rattle.sequences.specs.Pick.{took, skipped}
+-- `barred` meets its contract: one test, then the other.
+use Rattle.std.proofs.Common.{rules}
 use Rattle.births.specs.Birth.{is_barred}
 use Rattle.births.proofs.arrivals.barred.Goals as goal
 
-pub returns-then-slot-eq-NO_SOURCE : goal.returns-then-slot-eq-NO_SOURCE
+pub returns-then-is_none : goal.returns-then-is_none
 unfolding is_barred
-returns-then-slot-eq-NO_SOURCE c = took _ _ _ _ (eq-eqb _ _ c.if-slot-eq-NO_SOURCE.true) refl
+returns-then-is_none c = rw (c.is_none.ensures, c.if-is_none.true)
 
-pub returns-else-slot-eq-NO_SOURCE : goal.returns-else-slot-eq-NO_SOURCE
+pub returns-else-is_none : goal.returns-else-is_none
 unfolding is_barred
-returns-else-slot-eq-NO_SOURCE c = skipped _ _ _ _ (ne_eqb _ _ c.if-slot-eq-NO_SOURCE.false) refl
+returns-else-is_none c = rw (c.is_none.ensures, c.if-is_none.false)

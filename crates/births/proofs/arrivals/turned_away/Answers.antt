@@ -2,4 +2,4 @@
 use Rattle.births.proofs.arrivals.turned_away.Goals as goal
 
 pub returns : goal.returns
-returns c = rw c.free_particle-particle.ensures
+returns c = rw c.default-particle.ensures

@@ -5,7 +5,7 @@ use Rattle.frame.proofs.partials.placed.Goals as goal
 
 pub returns-then-hz-max_hz : goal.returns-then-hz-max_hz
 unfolding window_by
-returns-then-hz-max_hz c = took _ _ _ _ (rw (← c.exp2-hz.ensures) c.if-hz-max_hz.true) c.empty_window.ensures
+returns-then-hz-max_hz c = took _ _ _ _ (rw (← c.exp2-hz.ensures) c.if-hz-max_hz.true) c.default.ensures
 
 pub returns : goal.returns
 unfolding window_by

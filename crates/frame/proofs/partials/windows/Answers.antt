@@ -8,7 +8,7 @@ use Rattle.frame.proofs.partials.windows.Goals as goal
 use Rattle.frame.proofs.partials.windows.Goals.{then-row-lt-MAX_PARTIALS, else-row-lt-MAX_PARTIALS}
 
 pub loop-p-init : goal.loop-p-init
-loop-p-init c = blank_none _ empty_window _ c.empty_window-none.ensures
+loop-p-init c = blank_none _ empty_window _ c.default-none.ensures
 
 pub loop-w-init : goal.loop-w-init
 loop-w-init c = (omega arith, blank_turns _ _ _ _ _ c.loop-p.invariant (omega arith))

@@ -14,10 +14,10 @@ in-full : one ≡ taper_of (sub32 one (convert binary32 (f64 0)))
 unfolding taper_of cubic clamp convert of_bits lt mul sub
 in-full = refl
 
-pub returns-in-Not : goal.returns-in-Not
+pub returns-in-None : goal.returns-in-None
 unfolding fade_of retirement_of
-returns-in-Not c = rw c.in-Not.is in-full
+returns-in-None c = rw c.in-None.is in-full
 
-pub returns-in-At : goal.returns-in-At
+pub returns-in-Some : goal.returns-in-Some
 unfolding fade_of
-returns-in-At c = rw (c.taper.ensures, c.f64_to_f32.ensures, c.retirement.ensures)
+returns-in-Some c = rw (c.taper.ensures, c.f64_to_f32.ensures, c.retirement.ensures)

@@ -2,10 +2,10 @@
 use Rattle.frame.specs.Freed.{retirement_of}
 use Rattle.frame.proofs.places.retirement.Goals as goal
 
-pub returns-in-Not : goal.returns-in-Not
+pub returns-in-None : goal.returns-in-None
 unfolding retirement_of
-returns-in-Not c = rw c.in-Not.is
+returns-in-None c = rw c.in-None.is
 
-pub returns-in-At : goal.returns-in-At
+pub returns-in-Some : goal.returns-in-Some
 unfolding retirement_of
-returns-in-At c = rw (c.seconds.ensures, c.in-At.is)
+returns-in-Some c = rw (c.seconds.ensures, c.in-Some.is)

@@ -7,8 +7,8 @@ pub returns : goal.returns
 returns c =
     λ i. record {
       enabled = c.flag_at.ensures i;
-      shape = (c.shape_from.ensures ∙ ap shape_from c.byte.ensures) i;
-      direction = (c.direction_from.ensures ∙ ap direction_from c.byte-2.ensures) i;
+      shape = (c.from.ensures ∙ ap shape_from c.byte.ensures) i;
+      direction = (c.from-2.ensures ∙ ap direction_from c.byte-2.ensures) i;
       rate_hz = c.f32_at.ensures i;
       size_octaves = c.f32_at-2.ensures i;
       phase = c.f32_at-3.ensures i;

@@ -9,8 +9,8 @@ returns c =
     config-spelled
     c.args.c
     c.flag.ensures
-    c.shape_number.ensures
-    c.direction_number.ensures
+    c.from.ensures
+    c.from-2.ensures
     c.single-rate.ensures
     c.single-size.ensures
     c.single-phase.ensures

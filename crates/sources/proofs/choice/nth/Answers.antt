@@ -28,4 +28,4 @@ loop-i-preserved c =
 
 pub returns : goal.returns
 unfolding nth_from
-returns c = (omega arith) ∙ sym (rest_all c.loop-i.invariant (search rules))
+returns c = sym (rest_all c.loop-i.invariant (search rules))
