@@ -36,21 +36,13 @@ fn kept(i: usize, weight: f32, limit: usize, max_ratio: f32) -> f32
 fn allowed(weights: [f32; MAX_PARTIALS], limit: usize, max_ratio: f32) -> [f32; MAX_PARTIALS]
     ensures { result ≡ allowed_of limit max_ratio weights }
 {
-    let mut out = [0.0; MAX_PARTIALS];
-    for i in 0..MAX_PARTIALS {
-        out[i] = kept(i, weights[i], limit, max_ratio);
-    }
-    out
+    std::array::from_fn(|i| kept(i, weights[i], limit, max_ratio))
 }
 
 fn sum(weights: [f32; MAX_PARTIALS]) -> f32
     ensures { result ≡ sum_of weights }
 {
-    let mut sum = -0.0;
-    for i in 0..MAX_PARTIALS {
-        sum = sum + weights[i];
-    }
-    sum
+    weights.iter().sum()
 }
 
 // The harmonic, from 1, whose weight is above what is left of the target, or the last whose weight

@@ -61,11 +61,7 @@ fn weight(low: f32, span: f32, upward: bool, i: u32) -> f32
 fn total(low: f32, span: f32, upward: bool, count: u32) -> f32
     ensures { result ≡ total_of low span upward count }
 {
-    let mut sum = -0.0;
-    for i in 0..count {
-        sum = sum + weight(low, span, upward, i);
-    }
-    sum
+    (0..count).map(|i| weight(low, span, upward, i)).sum()
 }
 
 // The octave whose weight takes the target below 0, or the last one.

@@ -106,12 +106,7 @@ fn retire_one(p: Particle, sample: u64) -> Particle
 pub fn retire_all(particles: [Particle; MAX_PARTICLES], sample: u64) -> [Particle; MAX_PARTICLES]
     ensures { result ≡ map (retire_one sample) particles }
 {
-    let mut out = particles;
-    for i in 0..MAX_PARTICLES {
-        let p = out[i];
-        out[i] = retire_one(p, sample);
-    }
-    out
+    particles.map(|p| retire_one(p, sample))
 }
 
 fn retire_bound_one(p: Particle, slot: usize, sample: u64) -> Particle
@@ -133,12 +128,7 @@ pub fn retire_bound(
 ) -> [Particle; MAX_PARTICLES]
     ensures { result ≡ map (retire_bound_one slot sample) particles }
 {
-    let mut out = particles;
-    for i in 0..MAX_PARTICLES {
-        let p = out[i];
-        out[i] = retire_bound_one(p, slot, sample);
-    }
-    out
+    particles.map(|p| retire_bound_one(p, slot, sample))
 }
 
 fn retune_one(p: Particle, slot: usize, hz: f32) -> Particle
@@ -161,10 +151,5 @@ pub fn retune(
 ) -> [Particle; MAX_PARTICLES]
     ensures { result ≡ map (retune_one slot hz) particles }
 {
-    let mut out = particles;
-    for i in 0..MAX_PARTICLES {
-        let p = out[i];
-        out[i] = retune_one(p, slot, hz);
-    }
-    out
+    particles.map(|p| retune_one(p, slot, hz))
 }

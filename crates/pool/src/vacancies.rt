@@ -8,10 +8,8 @@ use crate::{MAX_PARTICLES, NO_PLACE, Particle};
 pub fn free_place(particles: [Particle; MAX_PARTICLES]) -> usize
     ensures { result ≡ free_place particles }
 {
-    for i in 0..MAX_PARTICLES {
-        if particles[i].active {} else {
-            return i;
-        }
+    match particles.iter().position(|p| !p.active) {
+        Some(place) => place,
+        None => NO_PLACE,
     }
-    NO_PLACE
 }

@@ -14,31 +14,26 @@ fn alternative(i: usize, s: Source, last: usize) -> bool
 fn alternatives(sources: [Source; MAX_SOURCES], last: usize) -> usize
     ensures { result ≡ alternatives_of last sources }
 {
-    let mut n: usize = 0;
-    for i in 0..MAX_SOURCES {
-        let s = sources[i];
-        if alternative(i, s, last) {
-            n += 1;
-        }
-    }
-    n
+    sources
+        .iter()
+        .enumerate()
+        .filter(|(i, s)| alternative(*i, **s, last))
+        .count()
 }
 
 // The slot of the n-th alternative, counted from 0; no source where there are no more.
 fn nth(sources: [Source; MAX_SOURCES], last: usize, n: usize) -> usize
     ensures { result ≡ nth_of last sources n }
 {
-    let mut left = n;
-    for i in 0..MAX_SOURCES {
-        let s = sources[i];
-        if alternative(i, s, last) {
-            if left == 0 {
-                return i;
-            }
-            left -= 1;
-        }
+    let nth = sources
+        .iter()
+        .enumerate()
+        .filter(|(i, s)| alternative(*i, **s, last))
+        .nth(n);
+    match nth {
+        Some((i, _)) => i,
+        None => NO_SOURCE,
     }
-    NO_SOURCE
 }
 
 // Which of n alternatives a draw takes.

@@ -1,19 +1,12 @@
--- `free_place` meets its contract: the loop stops at the first free one.
-use mathlib.Core.Path.{ap}
-use Rattle.sequences.specs.First.{sought_none, sought_more, sought_here, sought_all}
-use mathlib.Core.Bool.{not}
-use Rattle.pool.specs.Vacancies.{is_free}
-use borrow.Author.Rules.{rules}
+-- `free_place` meets its contract: the library's `position` finds the first free one.
+use Rattle.std.proofs.Common.{◌∙◌, rules, tests, not}
+use Rattle.std.proofs.lemmas.Iterator.{YieldsList-from_slice}
+use Rattle.std.proofs.lemmas.Iterator.Search.{position_from_yields_List}
+use Rattle.sequences.specs.First.{found, found_none}
 use Rattle.pool.proofs.vacancies.free_place.Goals as goal
 
-pub loop-i-init : goal.loop-i-init
-loop-i-init c = sought_none is_free 64 _ (search rules)
+pub returns-in-Some : goal.returns-in-Some
+returns-in-Some c = found (λ p. not p.active) _ _ (position_from_yields_List _ _ _ _ c.in-Some.ensures.ran (YieldsList-from_slice c.args.particles cc) (λ x b q k. search (rules, tests)))
 
-pub returns-else-particles-i : goal.returns-else-particles-i
-returns-else-particles-i c = sought_here is_free c.loop-i.invariant _ (search rules) (ap not c.if-particles-i.false)
-
-pub loop-i-preserved : goal.loop-i-preserved
-loop-i-preserved c = sought_more is_free c.loop-i.invariant _ (search rules) (ap not c.if-particles-i.true)
-
-pub returns : goal.returns
-returns c = sought_all is_free c.loop-i.invariant (search rules)
+pub returns-in-None : goal.returns-in-None
+returns-in-None c = search rules ∙ found_none (λ p. not p.active) c.args.particles (position_from_yields_List _ _ _ _ c.in-None.ensures.ran (YieldsList-from_slice c.args.particles cc) (λ x b q k. search (rules, tests)))
