@@ -1,14 +1,15 @@
 -- What the library's iterators give, in the words of this crate: `fold` and `sum`, `filter` and `count`, `map`.
-use Rattle.std.specs.Prelude.{◌≡◌, refl, Bool, Option, List, [], ◌∷◌, map, fold, filter, ℕ, zero, suc, ◌+◌, length}
-use Rattle.std.specs.List.{enumerate_from, range_with_len}
+use Rattle.std.specs.Prelude.{◌≡◌, refl, Bool, true, false, ◌&&◌, Option, List, [], ◌∷◌, map, fold, filter, ℕ, zero, suc, ◌+◌, length}
+use Rattle.std.specs.List.{enumerate_from, list_all, range_with_len}
 use Rattle.std.specs.Bool.{⊤}
 use Rattle.std.specs.Iterator.{Drains}
 use Rattle.std.proofs.iter.Yields.{gives_Drains}
 use Rattle.std.proofs.lemmas.Iterator.{YieldsList}
-use Rattle.std.proofs.lemmas.List.Folds.{fold-map}
+use Rattle.std.proofs.lemmas.List.Folds.{fold-map, list_all-append, list_all-map}
 use Rattle.std.proofs.Common.{sym, ap, ◌∙◌, add-one, add-zero, zero-add, arith}
 use Rattle.std.proofs.lemmas.List.FromFn.{map-range_with_len_more}
 use Rattle.std.proofs.lemmas.List.Sums.{fold-append}
+use Rattle.sequences.specs.All.{all}
 use Rattle.sequences.specs.Pick.{pick, by-case}
 use Rattle.sequences.specs.Times.{times}
 use Rattle.sequences.specs.Walk.{walk, counting, count}
@@ -54,3 +55,20 @@ module _ {A : Type 0} (q : ℕ → A → Bool) where
 pub summed : {S A B C : Type 0} {steps : S → Option A → S → Type 0} {v : A → B} {s : S} {all : List B} (h : C → B → C) (start r : C)
     → ((xs : List A) × (⊤ → Drains steps s xs) × (r ≡ fold (λ a x. h a (v x)) start xs)) → YieldsList steps v s all → r ≡ fold h start all
 summed {steps = steps} {v} {s} {all} h start r d e = d.2 ∙ sym (fold-map h v start d.0) ∙ ap (fold h start) (gives_Drains steps v d.0 all s e.runs (d.1 tt))
+
+-- what `all` answers over a range
+module _ (f : ℕ → Bool) where
+  and_true : (b : Bool) → (b && true) ≡ b
+  and_true true = refl
+  and_true false = refl
+
+  flags : (n : ℕ) → list_all (λ b. b) (map f (range_with_len 0 n)) ≡ all f n
+  flags zero = refl
+  flags (suc n) =
+      ap (λ (m : ℕ). list_all (λ b. b) (map f (range_with_len 0 m))) (sym (add-one n))
+      ∙ ap (list_all (λ b. b)) (map-range_with_len_more f 0 n n (zero-add n))
+      ∙ list_all-append (λ b. b) (map f (range_with_len 0 n)) (f n ∷ [])
+      ∙ rw (flags n, and_true (f n)) refl
+
+  pub all_in : (n : ℕ) → list_all f (range_with_len 0 n) ≡ all f n
+  all_in n = sym (list_all-map (λ b. b) f (range_with_len 0 n)) ∙ flags n
