@@ -33,15 +33,14 @@ fn digits(text: &[u8]) -> Number
         return Number::Nothing;
     }
     let mut n: u64 = 0;
-    for i in 0..text.len() {
-        let c = text[i];
-        if c < 48 {
+    for c in text {
+        if *c < 48 {
             return Number::Nothing;
         }
-        if c > 57 {
+        if *c > 57 {
             return Number::Nothing;
         }
-        n = held(n * 10 + (c as u64 - 48));
+        n = held(n * 10 + (*c as u64 - 48));
     }
     Number::Is(n)
 }

@@ -15,7 +15,11 @@ fn partial_logs() -> [f32; MAX_PARTIALS]
 pub fn weights(partial_logs: [f32; MAX_PARTIALS], rolloff_db: f32) -> [f32; MAX_PARTIALS]
     ensures { result ≡ weights_of partial_logs rolloff_db }
 {
-    partial_logs.map(|log| elementary::db_to_gain(-rolloff_db * log))
+    let mut out = partial_logs;
+    for log in out.iter_mut() {
+        *log = elementary::db_to_gain(-rolloff_db * *log);
+    }
+    out
 }
 
 // How far the offset glides in a sample.
