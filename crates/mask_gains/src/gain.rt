@@ -37,6 +37,7 @@ fn finish(level: f32, shut: f32, scratch: &[f32], output: &mut [f32])
     requires { (length scratch.now ≡ length output.old) × (shut ≡ gain_of level zero32) }
     ensures { output.new ≡ table (length scratch.now) (λ i. gain_of level (get_or scratch.now i nan)) }
 {
+    // `output.iter_mut().zip(scratch)` was tried: no invariant can name what such a loop has written.
     for (i, openness) in scratch.iter().enumerate() {
         output[i] = gain(level, shut, *openness);
     }

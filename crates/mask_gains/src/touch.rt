@@ -14,6 +14,7 @@ fn raise(w: Window, logs: &[f32], scratch: &mut [f32], start: usize, end: usize)
     requires { (length logs.now ≡ length scratch.old) × (start ≤ end) × (end ≤ length logs.now) × Numbers scratch.old }
     ensures { Part w logs.now scratch.old start end scratch.new }
 {
+    // Reads and writes the bins of a range in two slices: over one of them i would be counted all the same.
     for i in start..end {
         let o = scratch[i];
         let v = windows::openness(w, logs[i]);

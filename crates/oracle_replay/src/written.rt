@@ -35,6 +35,7 @@ fn put_harmonics(
     ensures { Put out.old out.new at result (harmonics_bytes logs defaults weights) }
 {
     let mut at = at;
+    // Three arrays are read at one place: zipped they would be nested pairs, no plainer.
     for i in 0..24 {
         let words = crate::numbers::harmonic(logs[i], defaults[i], weights[i]);
         at = put_words(out, at, &words);

@@ -50,6 +50,7 @@ fn sum(weights: [f32; MAX_PARTIALS]) -> f32
 fn harmonic(weights: [f32; MAX_PARTIALS], target: f32) -> u8
     ensures { result ≡ harmonic_of weights target }
 {
+    // A loop that yields the harmonic by `break`, as 01's list of forms has it.
     let mut left = target;
     let mut chosen: u8 = 0;
     let mut i: usize = 0;
@@ -89,6 +90,7 @@ fn drawn(index: u64, weights: [f32; MAX_PARTIALS], count: usize) -> [u8; 3]
 {
     let mut left = weights;
     let mut selected = [0u8; 3];
+    // The slot is the draw's stream too, and what is left of the weights goes from turn to turn.
     for slot in 0..count {
         let total = sum(left);
         if total <= 0.0 {

@@ -69,17 +69,13 @@ fn chosen(low: f32, span: f32, upward: bool, count: u32, target: f32) -> u32
     ensures { result ≡ octave_chosen low span upward count target }
 {
     let mut left = target;
-    let mut i: u32 = 0;
-    loop {
-        if i == count {
-            break last(count);
-        }
+    for i in 0..count {
         left = left - weight(low, span, upward, i);
         if left < 0.0 {
-            break i;
+            return i;
         }
-        i = i + 1;
     }
+    last(count)
 }
 
 // log2 of the range's upper end, which is 4186.01 Hz at all but the lowest lawful rates.

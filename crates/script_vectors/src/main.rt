@@ -46,6 +46,7 @@ fn read_bytes(script: &mut [u8], at: usize, n: usize) -> usize
     ensures { result ≤ length script.old }
 {
     let end = until(at, n, script.len());
+    // Where `at` lies past the end there is no slice to go over.
     for i in at..end {
         script[i] = pair();
     }
@@ -60,6 +61,7 @@ fn repeat(script: &mut [u8], at: usize, n: usize, more: usize) -> usize
         return 0;
     }
     let end = until(at, more, script.len());
+    // Reads what it has written, so no slice of the one can be held beside the other.
     for i in at..end {
         script[i] = script[i - n];
     }
