@@ -31,6 +31,7 @@ fn nearest_root(n: u64) -> u64
     requires { (0 < n) × (n < 281474976710656) }
     ensures { result ≡ nearest_root n }
 {
+    // The loops go over nothing: q and r settle by their own squares.
     let mut q = step(n, step(n, guess(n)));
     while n <= q * (q - 1) {
         q = q - 1;

@@ -22,8 +22,7 @@ pub fn lanes(engine: Engine, reference: f64) -> Engine
     ensures { result ≡ lanes_of engine reference }
 {
     let mut out = engine;
-    let mut k: usize = 0;
-    while k < 6 {
+    for k in 0..6 {
         let lane = k / 2;
         let streams = out.streams;
         let stream = streams[lane];
@@ -40,7 +39,6 @@ pub fn lanes(engine: Engine, reference: f64) -> Engine
                 }
             }
         }
-        k += 1;
     }
     out
 }

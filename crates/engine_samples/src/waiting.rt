@@ -126,6 +126,7 @@ fn wait_at_rest(clock: Clock, starts: Starts, tempo: Tempo, n: u64) -> Waited
     let mut sample = clock.sample;
     let mut phase = clock.phase;
     let mut count: u64 = 0;
+    // Counts what it answers: the samples until something is due.
     while count < n {
         if nothing_due(phase + phase_offset, starts) {} else {
             break;
@@ -157,6 +158,7 @@ fn wait_gliding(clock: Clock, starts: Starts, tempo: Tempo, n: u64) -> Waited
     let setting = floats::f32_to_f64(tempo.phase);
     let aim = setting - floats::floor64(setting - phase_offset + 0.5);
     let mut count: u64 = 0;
+    // Counts what it answers: the samples until something is due.
     while count < n {
         if nothing_due(phase + phase_offset, starts) {} else {
             break;
@@ -190,6 +192,7 @@ pub fn wait(clock: Clock, starts: Starts, tempo: Tempo, n: u64) -> Waited
     let mut phase = clock.phase;
     let mut phase_offset = clock.phase_offset;
     let mut count: u64 = 0;
+    // Counts what it answers: the samples until something is due.
     while count < n {
         if nothing_due(phase + phase_offset, starts) {} else {
             break;

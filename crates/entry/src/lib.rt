@@ -27,9 +27,8 @@ fn put_windows(out: &mut [u8], at: usize, windows: [Window; 192]) -> usize
     ensures { Put out.old out.new at result (windows_bytes windows) }
 {
     let mut at = at;
-    for j in 0..192 {
-        let w = windows[j];
-        let bytes = window_bytes(w);
+    for w in &windows {
+        let bytes = window_bytes(*w);
         at = text::put(out, at, &bytes);
     }
     at

@@ -83,14 +83,13 @@ fn taken(
     let mut held = particles;
     let mut shown = [nothing; MAX_PARTICLES];
     let mut freed: usize = 0;
-    for i in 0..MAX_PARTICLES {
-        let p = held[i];
-        if places::freed(p, sample, rate) {
-            held[i] = free;
+    for (i, p) in held.iter_mut().enumerate() {
+        if places::freed(*p, sample, rate) {
+            *p = free;
             shown[i] = nothing;
             freed += 1;
         } else {
-            shown[i] = places::show(p, sample, rate);
+            shown[i] = places::show(*p, sample, rate);
         }
     }
     let windows = partials::windows(shown, logs, bin_hz, pitch::max_hz(rate));

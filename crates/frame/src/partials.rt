@@ -51,14 +51,12 @@ pub fn windows(
 {
     let none = Window::default();
     let mut out = [none; 192];
-    for p in 0..MAX_PARTICLES {
-        let s = shown[p];
-        let partials = s.partials;
-        for w in 0..3 {
-            let row = row(partials[w]);
+    for (p, s) in shown.iter().enumerate() {
+        for (w, partial) in s.partials.iter().enumerate() {
+            let row = row(*partial);
             if row < MAX_PARTIALS {
                 let center = s.root_log + logs[row];
-                out[p + MAX_PARTICLES * w] = placed(s, center, bin_hz, max_hz);
+                out[p + MAX_PARTICLES * w] = placed(*s, center, bin_hz, max_hz);
             }
         }
     }

@@ -2,7 +2,7 @@ pub mod Cases
 pub mod Closed
 pub mod Shaped
 pub mod Scanned
-pub mod Halves
+pub mod Point
 pub mod Opens
 pub mod Ordered
 pub mod Raising

@@ -20,8 +20,8 @@ fn log_at(bin_hz: f32, bin: usize) -> f32
 fn fill(bin_hz: f32, table: &mut [f32])
     ensures { table.new ≡ logs_of bin_hz (length table.old) }
 {
-    for bin in 0..table.len() {
-        table[bin] = log_at(bin_hz, bin);
+    for (bin, log) in table.iter_mut().enumerate() {
+        *log = log_at(bin_hz, bin);
     }
 }
 

@@ -37,8 +37,9 @@ fn finish(level: f32, shut: f32, scratch: &[f32], output: &mut [f32])
     requires { (length scratch.now ≡ length output.old) × (shut ≡ gain_of level zero32) }
     ensures { output.new ≡ table (length scratch.now) (λ i. gain_of level (get_or scratch.now i nan)) }
 {
-    for i in 0..output.len() {
-        output[i] = gain(level, shut, scratch[i]);
+    // `output.iter_mut().zip(scratch)` was tried: no invariant can name what such a loop has written.
+    for (i, openness) in scratch.iter().enumerate() {
+        output[i] = gain(level, shut, *openness);
     }
 }
 
@@ -71,9 +72,7 @@ pub fn quiet(depth_db: f32, activity: f32) -> bool
 fn fill_ones(output: &mut [f32])
     ensures { output.new ≡ table (length output.old) (λ i. one) }
 {
-    for i in 0..output.len() {
-        output[i] = 1.0;
-    }
+    output.fill(1.0);
 }
 
 // Refusal 6 comes before the ones.

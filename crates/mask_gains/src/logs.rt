@@ -18,6 +18,7 @@ pub fn lawful(logs: &[f32]) -> bool
         return true;
     }
     let mut ok = floats::is_finite32(logs[1]);
+    // Each turn reads two neighbours: over `windows(2)` they would be `w[0]` and `w[1]`, no plainer.
     for i in 2..logs.len() {
         ok = floats::both(ok, follows(logs[i - 1], logs[i]));
     }

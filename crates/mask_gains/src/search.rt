@@ -9,15 +9,7 @@ pub fn first_from(logs: &[f32], x: f32) -> usize
     requires { (2 ≤ length logs.now) × Falls (λ i. lt (get_or logs.now i nan) x) (length logs.now) }
     ensures { First (λ i. lt (get_or logs.now i nan) x) (length logs.now) result }
 {
-    let mut base: usize = 1;
-    let mut size: usize = logs.len() - 1;
-    while 1 < size {
-        let half = size / 2;
-        let mid = base + half;
-        base = base + floats::step_if(logs[mid] < x, half);
-        size = size - half;
-    }
-    base + floats::step_if(logs[base] < x, 1)
+    1 + logs[1..].partition_point(|log| *log < x)
 }
 
 // The first bin whose log is above x.
@@ -25,13 +17,5 @@ pub fn first_past(logs: &[f32], x: f32) -> usize
     requires { (2 ≤ length logs.now) × Falls (λ i. le (get_or logs.now i nan) x) (length logs.now) }
     ensures { First (λ i. le (get_or logs.now i nan) x) (length logs.now) result }
 {
-    let mut base: usize = 1;
-    let mut size: usize = logs.len() - 1;
-    while 1 < size {
-        let half = size / 2;
-        let mid = base + half;
-        base = base + floats::step_if(logs[mid] <= x, half);
-        size = size - half;
-    }
-    base + floats::step_if(logs[base] <= x, 1)
+    1 + logs[1..].partition_point(|log| *log <= x)
 }

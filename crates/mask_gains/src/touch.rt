@@ -14,6 +14,7 @@ fn raise(w: Window, logs: &[f32], scratch: &mut [f32], start: usize, end: usize)
     requires { (length logs.now ≡ length scratch.old) × (start ≤ end) × (end ≤ length logs.now) × Numbers scratch.old }
     ensures { Part w logs.now scratch.old start end scratch.new }
 {
+    // Reads and writes the bins of a range in two slices: over one of them i would be counted all the same.
     for i in start..end {
         let o = scratch[i];
         let v = windows::openness(w, logs[i]);
@@ -43,9 +44,8 @@ fn walk(windows: [Window; 192], logs: &[f32], scratch: &mut [f32])
     requires { (scratch.old ≡ table (length logs.now) (λ i. zero32)) × Sorted logs.now }
     ensures { scratch.new ≡ table (length logs.now) (open_at windows logs.now) }
 {
-    for j in 0..192 {
-        let w = windows[j];
-        touch(w, logs, scratch);
+    for w in &windows {
+        touch(*w, logs, scratch);
     }
 }
 
@@ -53,9 +53,7 @@ fn walk(windows: [Window; 192], logs: &[f32], scratch: &mut [f32])
 fn clear(scratch: &mut [f32])
     ensures { scratch.new ≡ table (length scratch.old) (λ i. zero32) }
 {
-    for i in 0..scratch.len() {
-        scratch[i] = 0.0;
-    }
+    scratch.fill(0.0);
 }
 
 // The openness of each bin under the windows. A refusal leaves scratch as it was.

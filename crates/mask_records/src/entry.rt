@@ -25,8 +25,8 @@ pub fn all_numbers(level: f32, opened: &[f32]) -> bool
     ensures { result ≡ all (λ i. is_number (entry_attenuation level (get_or opened.now i nan))) (length opened.now) }
 {
     let mut ok = true;
-    for i in 0..opened.len() {
-        ok = floats::both(ok, is_number(attenuation(level, opened[i])));
+    for openness in opened {
+        ok = floats::both(ok, is_number(attenuation(level, *openness)));
     }
     ok
 }
@@ -44,8 +44,8 @@ pub fn fill(gains: &[u16; 601], level: f32, opened: &[f32], out: &mut [u16])
     requires { (gains.now ≡ entries) × (length out.old ≡ length opened.now) }
     ensures { out.new ≡ table (length opened.now) (λ i. entry_for (entry_attenuation level (get_or opened.now i nan))) }
 {
-    for i in 0..out.len() {
-        out[i] = entry_for(gains, attenuation(level, opened[i]));
+    for (i, openness) in opened.iter().enumerate() {
+        out[i] = entry_for(gains, attenuation(level, *openness));
     }
 }
 
@@ -53,9 +53,7 @@ pub fn fill(gains: &[u16; 601], level: f32, opened: &[f32], out: &mut [u16])
 pub fn fill_ones(out: &mut [u16])
     ensures { out.new ≡ table (length out.old) (λ i. 32768) }
 {
-    for i in 0..out.len() {
-        out[i] = 32768;
-    }
+    out.fill(32768);
 }
 
 // Scratch gets the openness.
@@ -63,7 +61,5 @@ pub fn hand_over(opened: &[f32], scratch: &mut [f32])
     requires { length scratch.old ≡ length opened.now }
     ensures { scratch.new ≡ opened.now }
 {
-    for i in 0..scratch.len() {
-        scratch[i] = opened[i];
-    }
+    scratch.copy_from_slice(opened);
 }

@@ -23,8 +23,8 @@ fn put_pairs(entries: &[u16], out: &mut [u8], at: usize)
     requires { (length entries.now ≤ 8193) × (at + 2 * length entries.now ≤ length out.old) }
     ensures { out.new ≡ splice out.old at (pairs_of entries.now) }
 {
-    for i in 0..entries.len() {
-        let pair = bytes16(entries[i]);
+    for (i, entry) in entries.iter().enumerate() {
+        let pair = bytes16(*entry);
         out[at + 2 * i] = pair[0];
         out[at + (2 * i + 1)] = pair[1];
     }

@@ -30,19 +30,15 @@ fn all_entries(gains: &[u16; 601], s: &[u8], n: usize) -> bool
     requires { (gains.now ≡ entries) × (n ≤ 8193) }
     ensures { result ≡ all (λ i. is_entry (entry_in s.now i)) n }
 {
-    let mut ok = true;
-    for i in 0..n {
-        ok = floats::both(ok, is_entry(gains, be16_at(s, 16 + 2 * i)));
-    }
-    ok
+    (0..n).all(|i| is_entry(gains, be16_at(s, 16 + 2 * i)))
 }
 
 fn hand_out(s: &[u8], lent: &mut [u16])
     requires { length lent.old ≤ 8193 }
     ensures { lent.new ≡ table (length lent.old) (entry_in s.now) }
 {
-    for i in 0..lent.len() {
-        lent[i] = be16_at(s, 16 + 2 * i);
+    for (i, entry) in lent.iter_mut().enumerate() {
+        *entry = be16_at(s, 16 + 2 * i);
     }
 }
 

@@ -8,13 +8,5 @@ pub fn is_entry(gains: &[u16; 601], e: u16) -> bool
     requires { gains.now ≡ entries }
     ensures { result ≡ is_entry e }
 {
-    let mut base: usize = 0;
-    let mut size: usize = 601;
-    while 1 < size {
-        let half = size / 2;
-        let mid = base + half;
-        base = base + floats::step_if(e <= gains[mid], half);
-        size = size - half;
-    }
-    gains[base] == e
+    gains.binary_search_by(|gain| e.cmp(gain)).is_ok()
 }

@@ -27,15 +27,14 @@ fn digits(text: &[u8]) -> Option<u64>
         return None;
     }
     let mut n: u64 = 0;
-    for i in 0..text.len() {
-        let c = text[i];
-        if c < 48 {
+    for c in text {
+        if *c < 48 {
             return None;
         }
-        if c > 57 {
+        if *c > 57 {
             return None;
         }
-        n = held(n * 10 + (c as u64 - 48));
+        n = held(n * 10 + (*c as u64 - 48));
     }
     Some(n)
 }

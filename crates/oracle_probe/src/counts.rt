@@ -28,14 +28,12 @@ pub extern "C" fn rk_probe_active_counts(events: u64, asked: bool) -> u64
 {
     let mut engine = sounding_engine();
     let mut sum: u64 = 0;
-    let mut i: u64 = 0;
-    while i < events {
+    for _ in 0..events {
         let triggered = engine::trigger(engine, 0);
         engine = triggered.engine;
         if asked {
             sum = std::num::wrapping_add_u64(sum, engine::active_count(engine) as u64);
         }
-        i += 1;
     }
     sum
 }

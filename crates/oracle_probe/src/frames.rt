@@ -33,12 +33,7 @@ fn window_at(flat: &[f32], j: usize) -> Window
 pub fn frame_of(flat: &[f32], activity: f32) -> Frame
     ensures { result ≡ flat_frame flat.now activity }
 {
-    let none = Window::default();
-    let mut windows = [none; 192];
-    for j in 0..192 {
-        let w = window_at(flat, j);
-        windows[j] = w;
-    }
+    let windows = std::array::from_fn(|j| window_at(flat, j));
     Frame { windows, activity }
 }
 

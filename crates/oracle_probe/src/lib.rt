@@ -520,13 +520,7 @@ fn weight_of(seed: u64, i: u64) -> f32
 fn weights_of(seed: u64) -> [f32; 24]
     ensures { result ≡ weights_from seed }
 {
-    let mut weights = [0.0f32; 24];
-    let mut i: usize = 0;
-    while i < 24 {
-        weights[i] = weight_of(seed, i as u64);
-        i = i + 1;
-    }
-    weights
+    std::array::from_fn(|i| weight_of(seed, i as u64))
 }
 
 fn wide(x: u8) -> u32

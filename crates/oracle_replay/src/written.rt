@@ -19,8 +19,8 @@ fn put_words(out: &mut [u8], at: usize, words: &[u64]) -> usize
     ensures { Put out.old out.new at result (words_bytes words.now) }
 {
     let mut at = at;
-    for i in 0..words.len() {
-        at = put_word(out, at, words[i]);
+    for word in words {
+        at = put_word(out, at, *word);
     }
     at
 }
@@ -35,6 +35,7 @@ fn put_harmonics(
     ensures { Put out.old out.new at result (harmonics_bytes logs defaults weights) }
 {
     let mut at = at;
+    // Three arrays are read at one place: zipped they would be nested pairs, no plainer.
     for i in 0..24 {
         let words = crate::numbers::harmonic(logs[i], defaults[i], weights[i]);
         at = put_words(out, at, &words);
@@ -46,9 +47,8 @@ fn put_streams(out: &mut [u8], at: usize, streams: [SprinkleStream; SPRINKLE_STR
     ensures { Put out.old out.new at result (streams_bytes streams) }
 {
     let mut at = at;
-    for i in 0..SPRINKLE_STREAMS {
-        let stream = streams[i];
-        let words = crate::numbers::stream(stream);
+    for stream in &streams {
+        let words = crate::numbers::stream(*stream);
         at = put_words(out, at, &words);
     }
     at
@@ -58,9 +58,8 @@ fn put_sources(out: &mut [u8], at: usize, sources: [Source; MAX_SOURCES]) -> usi
     ensures { Put out.old out.new at result (sources_bytes sources) }
 {
     let mut at = at;
-    for i in 0..MAX_SOURCES {
-        let source = sources[i];
-        let words = crate::numbers::source(source);
+    for source in &sources {
+        let words = crate::numbers::source(*source);
         at = put_words(out, at, &words);
     }
     at
@@ -70,9 +69,8 @@ fn put_particles(out: &mut [u8], at: usize, particles: [Particle; MAX_PARTICLES]
     ensures { Put out.old out.new at result (particles_bytes particles) }
 {
     let mut at = at;
-    for i in 0..MAX_PARTICLES {
-        let particle = particles[i];
-        let words = crate::numbers::particle(particle);
+    for particle in &particles {
+        let words = crate::numbers::particle(*particle);
         at = put_words(out, at, &words);
     }
     at

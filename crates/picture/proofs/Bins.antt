@@ -1,13 +1,14 @@
--- What the rows come to, each by one computed test: the widths, and that every row has a bin; and a sum from some entry on.
-use mathlib.Core.Path.{◌≡◌, ap}
+-- What the rows come to, each by one computed test: the widths, and that every row has a bin; and the sum of the entries.
+use mathlib.Core.Path.{◌≡◌, refl, ap, ◌∙◌}
+use Rattle.std.proofs.lemmas.List.Sums.{sum_by-cons}
+use Rattle.std.specs.Prelude.{sum}
 use mathlib.Core.Bool.{Bool, ◌&&◌}
 use mathlib.Core.List.{List, [], ◌∷◌}
 use Prim.Native.Nat.{ℕ, suc, ◌+◌, ◌-◌, ◌^◌, ◌≤◌, ◌<◌}
 use native.Mathlib.Numerals.{add-one}
 use lib.Dec.{T, eqb, leb, ltb, eqb→eq, leb→le, ltb→lt}
 use lib.Ieee.Fits.{and_l, and_r}
-use lib.ListN.{length, get_or, drop, drop_of_length-le}
-use lib.Seq.{drop-cons}
+use lib.ListN.{get_or}
 use Rattle.sequences.specs.All.{all-at}
 use Rattle.sequences.specs.Pick.{pick}
 use Rattle.picture.specs.Rows.{row_width, first_bin, entries_sum}
@@ -35,12 +36,8 @@ pub row_has_a_bin : (row : ℕ) → row < 89 → first_bin row < first_bin (row 
 unfolding first_bin row_width pick
 row_has_a_bin row h = rw add-one (ltb→lt _ _ (all-at rises 89 tt row h))
 
--- a sum from some entry on
-module _ (es : List ℕ) (i : ℕ) where
-  pub sum_drop : i < length es → entries_sum (drop i es) ≡ get_or es i 0 + entries_sum (drop (suc i) es)
-  unfolding entries_sum
-  sum_drop h = ap entries_sum (drop-cons es i 0 h)
-
-  pub sum-none : length es ≤ i → entries_sum (drop i es) ≡ 0
-  unfolding entries_sum
-  sum-none h = ap entries_sum (drop_of_length-le es {i = i} h)
+-- the library's sum
+pub sum_is : (es : List ℕ) → sum es ≡ entries_sum es
+unfolding entries_sum
+sum_is [] = refl
+sum_is (e ∷ es) = sum_by-cons (λ x. x) e es ∙ ap (λ (n : ℕ). e + n) (sum_is es)

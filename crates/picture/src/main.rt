@@ -55,11 +55,8 @@ fn turn(before: u64, bytes: &mut [u8], entries: &mut [u16], line: &mut [u8]) -> 
 fn all_turns(bytes: &mut [u8], entries: &mut [u16], line: &mut [u8])
     requires { (16402 ≤ length bytes.old) × (length entries.old ≤ 8193) }
 {
-    let mut before = 0;
-    while before < 18446744073709551615 {
-        if turn(before, bytes, entries, line) {
-            before += 1;
-        } else {
+    for before in 0..18446744073709551615 {
+        if !turn(before, bytes, entries, line) {
             return;
         }
     }

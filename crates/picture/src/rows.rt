@@ -28,11 +28,7 @@ fn sum(entries: &[u16]) -> u64
     requires { length entries.now ≤ 8193 }
     ensures { result ≡ entries_sum entries.now }
 {
-    let mut total = 0;
-    for i in 0..entries.len() {
-        total += entries[i] as u64;
-    }
-    total
+    entries.iter().map(|entry| *entry as u64).sum()
 }
 
 fn mean(entries: &[u16]) -> u64

@@ -36,21 +36,13 @@ fn kept(i: usize, weight: f32, limit: usize, max_ratio: f32) -> f32
 fn allowed(weights: [f32; MAX_PARTIALS], limit: usize, max_ratio: f32) -> [f32; MAX_PARTIALS]
     ensures { result ≡ allowed_of limit max_ratio weights }
 {
-    let mut out = [0.0; MAX_PARTIALS];
-    for i in 0..MAX_PARTIALS {
-        out[i] = kept(i, weights[i], limit, max_ratio);
-    }
-    out
+    std::array::from_fn(|i| kept(i, weights[i], limit, max_ratio))
 }
 
 fn sum(weights: [f32; MAX_PARTIALS]) -> f32
     ensures { result ≡ sum_of weights }
 {
-    let mut sum = -0.0;
-    for i in 0..MAX_PARTIALS {
-        sum = sum + weights[i];
-    }
-    sum
+    weights.iter().sum()
 }
 
 // The harmonic, from 1, whose weight is above what is left of the target, or the last whose weight
@@ -58,6 +50,7 @@ fn sum(weights: [f32; MAX_PARTIALS]) -> f32
 fn harmonic(weights: [f32; MAX_PARTIALS], target: f32) -> u8
     ensures { result ≡ harmonic_of weights target }
 {
+    // A loop that yields the harmonic by `break`, as 01's list of forms has it.
     let mut left = target;
     let mut chosen: u8 = 0;
     let mut i: usize = 0;
@@ -97,6 +90,7 @@ fn drawn(index: u64, weights: [f32; MAX_PARTIALS], count: usize) -> [u8; 3]
 {
     let mut left = weights;
     let mut selected = [0u8; 3];
+    // The slot is the draw's stream too, and what is left of the weights goes from turn to turn.
     for slot in 0..count {
         let total = sum(left);
         if total <= 0.0 {

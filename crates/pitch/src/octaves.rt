@@ -61,11 +61,7 @@ fn weight(low: f32, span: f32, upward: bool, i: u32) -> f32
 fn total(low: f32, span: f32, upward: bool, count: u32) -> f32
     ensures { result ≡ total_of low span upward count }
 {
-    let mut sum = -0.0;
-    for i in 0..count {
-        sum = sum + weight(low, span, upward, i);
-    }
-    sum
+    (0..count).map(|i| weight(low, span, upward, i)).sum()
 }
 
 // The octave whose weight takes the target below 0, or the last one.
@@ -73,17 +69,13 @@ fn chosen(low: f32, span: f32, upward: bool, count: u32, target: f32) -> u32
     ensures { result ≡ octave_chosen low span upward count target }
 {
     let mut left = target;
-    let mut i: u32 = 0;
-    loop {
-        if i == count {
-            break last(count);
-        }
+    for i in 0..count {
         left = left - weight(low, span, upward, i);
         if left < 0.0 {
-            break i;
+            return i;
         }
-        i = i + 1;
     }
+    last(count)
 }
 
 // log2 of the range's upper end, which is 4186.01 Hz at all but the lowest lawful rates.

@@ -4,14 +4,15 @@ use mathlib.Core.Path.{◌≡◌, refl, sym}
 use mathlib.Core.Bool.{Bool, true, false, not, true≢false}
 use mathlib.Core.List.{List}
 use lib.ListN.{length, get_or}
-use Rattle.sequences.specs.First.{first-fails, first_passes}
+use Rattle.sequences.specs.First.{first-fails, first_passes, first_or_len, found_none}
 use Rattle.pool.specs.declared.Particle.{Particle}
 use Rattle.pool.specs.Pool.{free_particle}
 use Rattle.pool.specs.Vacancies.{is_free, free_place, vacant_place}
-use Rattle.std.specs.Prelude.{Option, Some, None}
+use Rattle.std.specs.Prelude.{Option, Some, None, position}
+use Rattle.std.specs.List.{position_or_len}
 use Rattle.sequences.specs.Pick.{picked, passed, by-case}
 use Rattle.std.proofs.lemmas.Option.{none-some, same_Some}
-use Rattle.std.proofs.Common.{ltb, lt-ltb, le-ltb, ◌∙◌, ap, arith}
+use Rattle.std.proofs.Common.{ltb, ltb-true, lt-ltb, le-ltb, ◌∙◌, ap, arith}
 
 module _ (ps : List Particle) where
   pub lowest-free : free_place ps < length ps → (get_or ps (free_place ps) free_particle).active ≡ false
@@ -37,6 +38,16 @@ module _ (ps : List Particle) where
   pub none_vacant : 64 ≡ free_place ps → None ≡ vacant_place ps
   unfolding vacant_place
   none_vacant e = passed _ _ _ (le-ltb (free_place ps) 64 (omega (arith, e)))
+
+  -- the library's `position` answers it
+  pub vacant-sought : length ps ≡ 64 → position (λ p. not p.active) ps ≡ vacant_place ps
+  vacant-sought l =
+      let P : Particle → Bool = λ p. not p.active in
+      by-case (ltb (position_or_len P ps) (length ps))
+      (λ e.
+      let q : position P ps ≡ Some (position_or_len P ps) = rw e refl in
+      q ∙ vacant (position_or_len P ps) (sym (first_or_len P ps)) (let h = ltb-true _ _ e in omega (arith, l, h)))
+      (λ e. let q : position P ps ≡ None = rw e refl in q ∙ none_vacant (sym l ∙ found_none P ps (sym q)))
 
   -- an answer says where it is, or that all are held
   pub vacant-is : (i : ℕ) → Some i ≡ vacant_place ps → (ltb (free_place ps) 64 ≡ true) × (i ≡ free_place ps)

@@ -7,10 +7,5 @@ use crate::{MAX_PARTICLES, Particle};
 pub fn free_place(particles: [Particle; MAX_PARTICLES]) -> Option<usize>
     ensures { result ≡ vacant_place particles }
 {
-    for i in 0..MAX_PARTICLES {
-        if particles[i].active {} else {
-            return Some(i);
-        }
-    }
-    None
+    particles.iter().position(|p| !p.active)
 }

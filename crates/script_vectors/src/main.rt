@@ -44,10 +44,9 @@ fn read_bytes(script: &mut [u8], at: usize, n: usize) -> usize
     ensures { result ≤ length script.old }
 {
     let end = until(at, n, script.len());
-    let mut i = at;
-    while i < end {
+    // Where `at` lies past the end there is no slice to go over.
+    for i in at..end {
         script[i] = pair();
-        i = i + 1;
     }
     end
 }
@@ -60,10 +59,9 @@ fn repeat(script: &mut [u8], at: usize, n: usize, more: usize) -> usize
         return 0;
     }
     let end = until(at, more, script.len());
-    let mut i = at;
-    while i < end {
+    // Reads what it has written, so no slice of the one can be held beside the other.
+    for i in at..end {
         script[i] = script[i - n];
-        i = i + 1;
     }
     end
 }
@@ -116,14 +114,10 @@ fn listing_differs(line: &[u8; 84], script: &mut [u8], want: &mut [u8], out: &mu
 
 // The oracle's digest of bytes.
 fn digest(bytes: &[u8]) -> u64 {
-    let mut h: u64 = 0;
-    let mut i: usize = 0;
-    while i < bytes.len() {
-        let turned = floats::rotate_left(h, 7) ^ wide(bytes[i]);
-        h = std::num::wrapping_add_u64(draws::mix(turned), 0x9e3779b97f4a7c15);
-        i = i + 1;
-    }
-    h
+    bytes.iter().fold(0, |h, byte| {
+        let turned = floats::rotate_left(h, 7) ^ wide(*byte);
+        std::num::wrapping_add_u64(draws::mix(turned), 0x9e3779b97f4a7c15)
+    })
 }
 
 fn frame_differs(line: &[u8; 84], script: &mut [u8]) -> bool {

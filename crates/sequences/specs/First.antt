@@ -1,8 +1,11 @@
 -- A loop that searches an array and stops at the first element that passes: `for i in 0..n { if q(i, xs[i]) { return i; } } n`.
-use Rattle.std.specs.Prelude.{◌≡◌, Bool, ltb, length, get_or, drop}
+use Rattle.std.specs.Prelude.{◌≡◌, Bool, not, ltb, length, get_or, drop, MatchOption, Some, None, position}
+use Rattle.std.specs.List.{position_or_len}
 use Rattle.std.proofs.Math.Path.{sym, ap, subst}
 use Rattle.std.proofs.Common.{◌∙◌, inl, inr, true≢false, lt_trans, eq-or-lt_of_le, le_of_suc-le-suc, not-suc-le-zero, zero-add, add-zero, add-suc, suc-add, arith, ltb-true, ltb-false}
 use Rattle.std.proofs.Math.Bool.{true, false}
+use Rattle.std.proofs.lemmas.List.{length-take}
+use Rattle.std.proofs.lemmas.List.Folds.{length-prefix_len}
 use mathlib.Core.List.{List, [], ◌∷◌}
 use Prim.Native.Nat.{ℕ, zero, suc, ◌+◌, ◌≤◌, ◌<◌}
 use Rattle.std.proofs.Math.Nat.{le_refl}
@@ -86,3 +89,26 @@ module _ {A : Type 0} (q : ℕ → A → Bool) (d : A) where
         | inl g ↦ sym g
         | inr g ↦ absurd (true≢false (sym (first_passes xs (lt_trans g l)) ∙ b (first q xs) g))
       ])
+
+-- ---- a test that is told no index, as the library's `position` has it
+module _ {A : Type 0} (p : A → Bool) where
+  first-counts : (i : ℕ) (xs : List A) → first_from (λ j x. p x) i xs tt ≡ i + position_or_len p xs
+  unfolding first_from pick
+  first-counts i [] = omega arith
+  first-counts i (x ∷ xs) =
+      by-case (p x) (λ e. rw e (omega arith)) (λ e. rw e (first-counts (suc i) xs ∙ omega arith))
+
+  pub first_or_len : (xs : List A) → first (λ i x. p x) xs ≡ position_or_len p xs
+  first_or_len xs = first-counts 0 xs ∙ zero-add (position_or_len p xs)
+
+  positioned : (xs : List A) → MatchOption (position p xs) (length xs ≡ first (λ i x. p x) xs) (λ i. i ≡ first (λ i x. p x) xs)
+  positioned xs =
+      by-case (ltb (position_or_len p xs) (length xs)) (λ e. rw e (sym (first_or_len xs)))
+      (λ e. rw e (sym (first_or_len xs ∙ (let h = ltb-false _ _ e in let k = length-prefix_len (λ x. not (p x)) xs in let t = length-take (position_or_len p xs) xs in omega arith))))
+
+  -- what it answers
+  pub found : (xs : List A) (i : ℕ) → Some i ≡ position p xs → i ≡ first (λ i x. p x) xs
+  found xs i e = subst (λ r. MatchOption r (length xs ≡ first (λ i x. p x) xs) (λ i. i ≡ first (λ i x. p x) xs)) (sym e) (positioned xs)
+
+  pub found_none : (xs : List A) → None ≡ position p xs → length xs ≡ first (λ i x. p x) xs
+  found_none xs e = subst (λ r. MatchOption r (length xs ≡ first (λ i x. p x) xs) (λ i. i ≡ first (λ i x. p x) xs)) (sym e) (positioned xs)

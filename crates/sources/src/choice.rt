@@ -14,31 +14,26 @@ fn alternative(i: usize, s: Source, last: Option<usize>) -> bool
 fn alternatives(sources: [Source; MAX_SOURCES], last: Option<usize>) -> usize
     ensures { result ≡ alternatives_of last sources }
 {
-    let mut n: usize = 0;
-    for i in 0..MAX_SOURCES {
-        let s = sources[i];
-        if alternative(i, s, last) {
-            n += 1;
-        }
-    }
-    n
+    sources
+        .iter()
+        .enumerate()
+        .filter(|(i, s)| alternative(*i, **s, last))
+        .count()
 }
 
 // The slot of the n-th alternative, counted from 0; none where there are no more.
 fn nth(sources: [Source; MAX_SOURCES], last: Option<usize>, n: usize) -> Option<usize>
     ensures { result ≡ nth_of last sources n }
 {
-    let mut left = n;
-    for i in 0..MAX_SOURCES {
-        let s = sources[i];
-        if alternative(i, s, last) {
-            if left == 0 {
-                return Some(i);
-            }
-            left -= 1;
-        }
+    let nth = sources
+        .iter()
+        .enumerate()
+        .filter(|(i, s)| alternative(*i, **s, last))
+        .nth(n);
+    match nth {
+        Some((i, _)) => Some(i),
+        None => None,
     }
-    None
 }
 
 // Which of n alternatives a draw takes.

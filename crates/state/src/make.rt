@@ -10,20 +10,16 @@ use sources::Source;
 fn partial_logs() -> [f32; MAX_PARTIALS]
     ensures { result ≡ partial_logs_of }
 {
-    let mut out = [0.0; MAX_PARTIALS];
-    for i in 0..MAX_PARTIALS {
-        out[i] = elementary::log2(floats::u64_to_f32(i as u64 + 1));
-    }
-    out
+    std::array::from_fn(|i| elementary::log2(floats::u64_to_f32(i as u64 + 1)))
 }
 
 // How likely each harmonic is, at so many decibels an octave.
 pub fn weights(partial_logs: [f32; MAX_PARTIALS], rolloff_db: f32) -> [f32; MAX_PARTIALS]
     ensures { result ≡ weights_of partial_logs rolloff_db }
 {
-    let mut out = [0.0; MAX_PARTIALS];
-    for i in 0..MAX_PARTIALS {
-        out[i] = elementary::db_to_gain(-rolloff_db * partial_logs[i]);
+    let mut out = partial_logs;
+    for log in out.iter_mut() {
+        *log = elementary::db_to_gain(-rolloff_db * *log);
     }
     out
 }

@@ -9,12 +9,9 @@ use crate::{Frame, Window};
 fn opened(windows: [Window; 192], log2_hz: f32) -> f32
     ensures { result ≡ opened_by windows log2_hz }
 {
-    let mut widest = 0.0;
-    for i in 0..192 {
-        let w = windows[i];
-        widest = floats::max32(widest, crate::openness(w, log2_hz));
-    }
-    widest
+    windows
+        .iter()
+        .fold(0.0, |o, w| floats::max32(o, crate::openness(*w, log2_hz)))
 }
 
 pub fn attenuation_db(frame: Frame, frequency_hz: f32, depth_db: f32) -> f32

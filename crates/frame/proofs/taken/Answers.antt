@@ -1,11 +1,14 @@
 -- `taken` meets its contract: one pass that frees in place, counts what it frees and shows beside it, and
 -- the callees' answers, put together.
-use Rattle.std.proofs.Common.{sym, ap, ◌∙◌, rules}
+use Rattle.std.proofs.Common.{◌+◌, List, set, sym, ap, ◌∙◌, subst, rules}
+use Rattle.std.proofs.lemmas.List.{set-get_or}
+use Rattle.pool.specs.declared.Particle.{Particle}
+use Rattle.pool.specs.Pool.{free_particle}
 use Rattle.sequences.specs.Pick.{picked, passed}
 use Rattle.sequences.specs.Walk.{walked_none, walked_more, walked_all}
-use Rattle.frame.specs.Freed.{is_freed}
+use Rattle.frame.specs.Freed.{is_freed, sweep_one}
 use Rattle.frame.specs.Shown.{shown_of}
-use Rattle.frame.proofs.Pass.{pass_none, pass_read, pass_changed, pass_kept, pass_held, pass_shown}
+use Rattle.frame.proofs.Pass.{Pass, pass_none, pass_read, pass_changed, pass_kept, pass_held, pass_shown}
 use Rattle.frame.proofs.Swept.{due-is-freed, other_stays, free-shows-nothing}
 use Rattle.frame.specs.Call.{held_of, freed_of, windows_by, renewed_of, taken_of}
 use Rattle.frame.proofs.taken.Goals as goal
@@ -17,20 +20,23 @@ loop-i-init c = (pass_none _ _ _ 64 _ _ (search rules) (search rules), walked_no
 pub loop-i-preserved : goal.loop-i-preserved
 loop-i-preserved c =
     let inv = c.loop-i.invariant in
+    let now = c.args.engine.clock.sample in
+    let rate = c.args.engine.prepared.sample_rate in
     let m = inv.0 in
     let free = c.default-free.ensures in
     let freed = c.freed.ensures in
     elim c.if-freed.branch [
       | then-freed w ↦
-          rw (w.held-is, w.shown-is) (
+          rw (w.p-items-is, w.shown-is) (
             pass_changed _ _ _ 64 _ _ _ _ m _ _ _ (search rules) (free ∙ due-is-freed _ _ _ (sym freed ∙ w.if-freed.true))
                 (c.nothing_shown-nothing.ensures ∙ free-shows-nothing _ _ ∙ ap (shown_of _ _) (sym free)),
             walked_more inv.1 _ _ (search rules) (w.freed-is ∙ picked _ _ _ (sym (ap (is_freed _ _ 0) (pass_read _ _ _ 64 _ _ _ _ m _)) ∙ sym freed ∙ w.if-freed.true)),
             search rules,
           )
       | else-freed w ↦
-          rw (w.held-is, w.shown-is) (
-            pass_kept _ _ _ 64 _ _ _ _ m _ _ (search rules) (other_stays _ _ _ (sym freed ∙ w.if-freed.false)) w.show.ensures,
+          rw (w.p-items-is, w.shown-is) (
+            subst (λ (held : List Particle). Pass (sweep_one now rate) (shown_of now rate) free_particle 64 c.args.particles (c.loop-i.i + 1) held (set c.loop-i.shown c.loop-i.i w.show.result))
+                (sym (set-get_or c.loop-i.p-items c.loop-i.i _)) (pass_kept _ _ _ 64 _ _ _ _ m _ _ (search rules) (other_stays _ _ _ (sym freed ∙ w.if-freed.false)) w.show.ensures),
             walked_more inv.1 _ _ (search rules) (w.freed-is ∙ passed _ _ _ (sym (ap (is_freed _ _ 0) (pass_read _ _ _ 64 _ _ _ _ m _)) ∙ sym freed ∙ w.if-freed.false)),
             search rules,
           )

@@ -1,5 +1,5 @@
--- What the loop of `taken` keeps, and the measure by which it ends.
-use Rattle.std.proofs.Common.{◌-◌, ◌≤◌}
+-- What the loop of `taken` keeps.
+use Rattle.std.proofs.Common.{◌≤◌}
 use Rattle.sequences.specs.Walk.{Walked, counting}
 use Rattle.pool.specs.Pool.{free_particle}
 use Rattle.frame.specs.Freed.{is_freed, sweep_one}
@@ -9,10 +9,6 @@ use Rattle.frame.proofs.taken.Given as goal
 
 abbrev pub invariant-loop-i : goal.invariant-loop-i
 invariant-loop-i l =
-    Pass (sweep_one l.sample l.rate) (shown_of l.sample l.rate) free_particle 64 l.initial.held l.i l.held l.shown
-    × Walked (counting (is_freed l.sample l.rate)) 64 l.initial.held 0 l.i l.freed
+    Pass (sweep_one l.sample l.rate) (shown_of l.sample l.rate) free_particle 64 l.initial.p-items l.i l.p-items l.shown
+    × Walked (counting (is_freed l.sample l.rate)) 64 l.initial.p-items 0 l.i l.freed
     × (l.freed ≤ l.i)
-
-abbrev pub decreases-loop-i : goal.decreases-loop-i
-decreases-loop-i l =
-    64 - l.i

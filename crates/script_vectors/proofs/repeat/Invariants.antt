@@ -4,6 +4,3 @@ use Rattle.script_vectors.proofs.repeat.Given as goal
 
 abbrev pub invariant-loop-i : goal.invariant-loop-i
 invariant-loop-i l = (l.end ≤ length l.initial.script) × (length l.script ≡ length l.initial.script) × (l.n ≤ l.i)
-
-abbrev pub decreases-loop-i : goal.decreases-loop-i
-decreases-loop-i l = l.end - l.i

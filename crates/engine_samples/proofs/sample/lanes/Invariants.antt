@@ -1,11 +1,8 @@
--- What the loop of `lanes` keeps, and the measure by which it ends.
-use Rattle.std.proofs.Common.{◌≡◌, ◌-◌, ◌≤◌}
+-- What the loop of `lanes` keeps.
+use Rattle.std.proofs.Common.{◌≡◌, ◌≤◌}
 use Rattle.sequences.specs.Times.{times}
 use Rattle.engine_samples.proofs.Tries.{try}
 use Rattle.engine_samples.proofs.sample.lanes.Given as goal
 
 abbrev pub invariant-loop-k : goal.invariant-loop-k
 invariant-loop-k l = (l.k ≤ 6) × (l.out ≡ times (try l.reference) l.k l.initial.out)
-
-abbrev pub decreases-loop-k : goal.decreases-loop-k
-decreases-loop-k l = 6 - l.k

@@ -1,18 +1,12 @@
--- What the loops of `windows` keep, and the measures by which they end.
-use Rattle.std.proofs.Common.{◌+◌, ◌-◌, ◌*◌, ◌≤◌}
+-- What the loops of `windows` keep.
+use Rattle.std.proofs.Common.{◌+◌, ◌*◌, ◌≤◌}
 use Rattle.windows.specs.Opening.{empty_window}
 use Rattle.frame.specs.Windows.{window_at}
 use Rattle.frame.proofs.Blank.{Blank}
 use Rattle.frame.proofs.partials.windows.Given as goal
 
 abbrev pub invariant-loop-w : goal.invariant-loop-w
-invariant-loop-w l = (l.w ≤ 3) × Blank (window_at l.logs l.bin_hz l.max_hz l.shown) empty_window (3 * l.p + l.w) l.out
-
-abbrev pub decreases-loop-w : goal.decreases-loop-w
-decreases-loop-w l = 3 - l.w
+invariant-loop-w l = (l.w ≤ 3) × Blank (window_at l.logs l.bin_hz l.max_hz l.s-items) empty_window (3 * l.p + l.w) l.out
 
 abbrev pub invariant-loop-p : goal.invariant-loop-p
-invariant-loop-p l = Blank (window_at l.logs l.bin_hz l.max_hz l.shown) empty_window (3 * l.p) l.out
-
-abbrev pub decreases-loop-p : goal.decreases-loop-p
-decreases-loop-p l = 64 - l.p
+invariant-loop-p l = Blank (window_at l.logs l.bin_hz l.max_hz l.s-items) empty_window (3 * l.p) l.out

@@ -1,5 +1,4 @@
--- What the loop of `fill` keeps, and the measure by which it ends.
-use Prim.Native.Nat.{◌-◌}
+-- What the loop of `fill` keeps.
 use lib.ListN.{length}
 use Rattle.sequences.specs.Table.{Filled}
 use Rattle.mask_gains.specs.Bins.{log_at}
@@ -7,6 +6,3 @@ use Rattle.mask_gains.proofs.bins.fill.Given as goal
 
 abbrev pub invariant-loop-bin : goal.invariant-loop-bin
 invariant-loop-bin l = Filled (log_at l.bin_hz) (length l.initial.table) l.bin l.table
-
-abbrev pub decreases-loop-bin : goal.decreases-loop-bin
-decreases-loop-bin l = length l.initial.table - l.bin

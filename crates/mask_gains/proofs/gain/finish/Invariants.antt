@@ -1,5 +1,5 @@
--- What the loop of `finish` keeps, and the measure by which it ends.
-use Prim.Native.Nat.{ℕ, ◌-◌}
+-- What the loop of `finish` keeps.
+use Prim.Native.Nat.{ℕ}
 use lib.ListN.{length, get_or}
 use lib.Ieee.{nan}
 use Rattle.sequences.specs.Table.{Filled}
@@ -8,6 +8,3 @@ use Rattle.mask_gains.proofs.gain.finish.Given as goal
 
 abbrev pub invariant-loop-i : goal.invariant-loop-i
 invariant-loop-i l = Filled (λ (j : ℕ). gain_of l.level (get_or l.scratch j nan)) (length l.scratch) l.i l.output
-
-abbrev pub decreases-loop-i : goal.decreases-loop-i
-decreases-loop-i l = length l.initial.output - l.i

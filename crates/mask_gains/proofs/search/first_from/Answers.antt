@@ -1,20 +1,12 @@
--- `first_from` meets its contract: a search by halves.
-use borrow.Author.Rules.{rules}
-use Prim.Native.Nat.{ℕ, ◌+◌, ◌/◌}
-use mathlib.Core.Path.{refl, ap}
-use Rattle.mask_gains.proofs.Halves.{halves_none, halves_more, halves_all}
+-- `first_from` meets its contract: the library's search, from bin 1 on.
+use Rattle.std.proofs.Common.{rules, tests}
+use lib.Ieee.{lt}
+use Rattle.std.proofs.lemmas.List.{take_rest}
+use Rattle.std.proofs.lemmas.List.Sorted.{IsPartitionPoint-from_clause}
+use Rattle.mask_gains.proofs.Point.{partitioned, first_at}
 use Rattle.mask_gains.proofs.search.first_from.Goals as goal
-
-pub loop-size-init : goal.loop-size-init
-loop-size-init c = halves_none _ _ (search rules)
-
-pub loop-size-preserved : goal.loop-size-preserved
-loop-size-preserved c =
-    let l = c.loop-size in
-    halves_more _ _ c.requires.1 l.base l.size (l.size / 2) _ _ _ l.invariant c.loop-size-test.true refl refl
-    (ap (λ (k : ℕ). l.base + k) c.step_if-base.ensures.0) refl
 
 pub returns : goal.returns
 returns c =
-    let l = c.loop-size in
-    halves_all _ _ l.base l.size _ _ l.invariant (search rules) refl (ap (λ (k : ℕ). l.base + k) c.step_if.ensures.0) c.requires.1
+    first_at (λ y. lt y c.args.x) c.args.logs.now (take_rest c.args.logs.now 1) _ c.requires.0 c.partition_point.ensures.bound
+    (IsPartitionPoint-from_clause (λ y. lt y c.args.x) _ _ c.partition_point.ensures.partitioned (partitioned (λ y. lt y c.args.x) c.args.logs.now (take_rest c.args.logs.now 1) c.requires.1) (λ a r q k. search (rules, tests)))

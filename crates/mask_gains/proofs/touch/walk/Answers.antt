@@ -7,20 +7,20 @@ use Rattle.mask_gains.proofs.Raising.{numbers_raised, numbers_blank}
 use Rattle.mask_gains.proofs.Opens.{opened-none, opened-more, opened-all}
 use Rattle.mask_gains.proofs.touch.walk.Goals as goal
 
-pub loop-j-init : goal.loop-j-init
-loop-j-init c = (opened-none _ _ _ (search rules) c.requires.0, numbers_blank _ _ c.requires.0)
+pub loop-w-init : goal.loop-w-init
+loop-w-init c = (opened-none _ _ _ (search rules) c.requires.0, numbers_blank _ _ c.requires.0)
 
 pub touch-requires : goal.touch-requires
-touch-requires c = (sym c.loop-j.invariant.0.same, c.requires.1, c.loop-j.invariant.1)
+touch-requires c = (sym c.loop-w.invariant.0.same, c.requires.1, c.loop-w.invariant.1)
 
-pub loop-j-preserved : goal.loop-j-preserved
-loop-j-preserved c =
-    let l = c.loop-j in
+pub loop-w-preserved : goal.loop-w-preserved
+loop-w-preserved c =
+    let l = c.loop-w in
     let r = c.touch.ensures in
-    (opened-more _ _ _ _ _ _ l.invariant.0 c.loop-j-test.true r, numbers_raised _ _ _ _ r l.invariant.1)
+    (opened-more _ _ _ _ _ _ l.invariant.0 c.loop-w-test.true r, numbers_raised _ _ _ _ r l.invariant.1)
 
 pub shape_of-scratch : goal.shape_of-scratch
-shape_of-scratch c = c.loop-j.invariant.0.same ∙ sym (ap length c.requires.0 ∙ length_table _ _)
+shape_of-scratch c = c.loop-w.invariant.0.same ∙ sym (ap length c.requires.0 ∙ length_table _ _)
 
 pub returns : goal.returns
-returns c = opened-all _ _ _ _ c.loop-j.invariant.0 c.loop-j-test.false
+returns c = opened-all _ _ _ _ c.loop-w.invariant.0 c.loop-w-test.false

@@ -10,13 +10,13 @@ use mathlib.Core.Path.{◌≡◌, refl, ap, ◌∙◌}
 use borrow.Author.Rules.{rules}
 use Rattle.mask_records.proofs.entry.all_numbers.Goals as goal
 
-pub loop-i-init : goal.loop-i-init
-loop-i-init c = (refl, search rules)
+pub loop-openness-init : goal.loop-openness-init
+loop-openness-init c = (refl, search rules)
 
-pub loop-i-preserved : goal.loop-i-preserved
-loop-i-preserved c = (rw add-one (cc), omega arith)
+pub loop-openness-preserved : goal.loop-openness-preserved
+loop-openness-preserved c = (rw add-one (cc), omega arith)
 
 pub returns : goal.returns
-returns c = let l = c.loop-i in
-    let e : l.i ≡ length c.args.opened.now = omega arith in
+returns c = let l = c.loop-openness in
+    let e : l.openness-index ≡ length c.args.opened.now = omega arith in
     l.invariant.0 ∙ ap (all (λ (j : ℕ). is_number (entry_attenuation c.args.level (get_or c.args.opened.now j nan)))) e

@@ -1,13 +1,7 @@
 -- `fill_ones` meets its contract: the same at each place.
-use Rattle.sequences.specs.Table.{filled_none, filled_more, filled-all}
-use mathlib.Core.Path.{refl}
+use Rattle.std.proofs.Common.{◌∙◌, rules}
+use Rattle.sequences.specs.Table.{table_same_value}
 use Rattle.mask_records.proofs.entry.fill_ones.Goals as goal
 
-pub loop-i-init : goal.loop-i-init
-loop-i-init c = filled_none _ _ _ refl
-
-pub loop-i-preserved : goal.loop-i-preserved
-loop-i-preserved c = filled_more c.loop-i.invariant _ c.loop-i-test.true refl
-
 pub returns : goal.returns
-returns c = filled-all c.loop-i.invariant c.loop-i-test.false
+returns c = c.fill.ensures.after (λ y e. search rules) ∙ table_same_value _ _

@@ -7,13 +7,13 @@ use Rattle.oracle_probe.proofs.Asked.{with_answer, without}
 use Rattle.oracle_probe.proofs.counts.rk_probe_active_counts.Goals as goal
 use Rattle.oracle_probe.proofs.counts.rk_probe_active_counts.Goals.{then-asked, else-asked}
 
-pub loop-i-init : goal.loop-i-init
+pub loop-init : goal.loop-init
 unfolding asked_of
-loop-i-init c = (c.sounding_engine-engine.ensures ∙ iterate-none _ _, refl, search rules)
+loop-init c = (c.sounding_engine-engine.ensures ∙ iterate-none _ _, refl, search rules)
 
-pub loop-i-preserved : goal.loop-i-preserved
-loop-i-preserved c =
-    let inv = c.loop-i.invariant in
+pub loop-preserved : goal.loop-preserved
+loop-preserved c =
+    let inv = c.loop.invariant in
     let fires = iterate-more fired _ _ _ _ inv.0 (ap (λ (t : Triggered). t.engine) c.trigger-triggered.ensures) in
     elim c.if-asked.branch [
       | then-asked w ↦ (fires, with_answer _ _ _ inv.1 _ _ _ w.if-asked.true fires w.active_count.ensures (w.sum-is ∙ w.wrapping_add_u64-sum.ensures.value), search rules)
@@ -22,5 +22,5 @@ loop-i-preserved c =
 
 pub returns : goal.returns
 returns c =
-    let inv = c.loop-i.invariant in
+    let inv = c.loop.invariant in
     inv.1 ∙ ap (asked_of _) (search rules)

@@ -8,19 +8,19 @@ use Rattle.text.proofs.Joined.{none_yet, one_more, all_there}
 use borrow.Author.Rules.{rules}
 use Rattle.oracle_replay.proofs.written.put_particles.Goals as goal
 
-pub loop-i-init : goal.loop-i-init
-loop-i-init c = none_yet _ _ _ _
+pub loop-particle-init : goal.loop-particle-init
+loop-particle-init c = none_yet _ _ _ _
 
-pub loop-i-preserved : goal.loop-i-preserved
-loop-i-preserved c =
-    let l = c.loop-i in
+pub loop-particle-preserved : goal.loop-particle-preserved
+loop-particle-preserved c =
+    let l = c.loop-particle in
     let a = c.args in
-    let here = get_d_any a.particles l.i _ free_particle (search rules) in
+    let here = get_d_any a.particles l.particle-index _ free_particle (search rules) in
     one_more l.invariant (search rules) (ap words_bytes (c.particle-words.ensures ∙ ap particle_of here)) c.put_words-at.ensures
 
 pub shape_of-out : goal.shape_of-out
-shape_of-out c = c.loop-i.invariant.same
+shape_of-out c = c.loop-particle.invariant.same
 
 pub returns : goal.returns
 unfolding particles_bytes
-returns c = all_there c.loop-i.invariant (search rules)
+returns c = all_there c.loop-particle.invariant (search rules)

@@ -1,4 +1,4 @@
--- What the loop of `put_particles` keeps, and the measure by which it ends.
+-- What the loop of `put_particles` keeps.
 use Prim.Native.Nat.{◌-◌}
 use lib.ListN.{get_or}
 use Rattle.pool.specs.Pool.{free_particle}
@@ -7,8 +7,5 @@ use Rattle.oracle_replay.specs.State.{words_bytes}
 use Rattle.text.proofs.Joined.{Pieces}
 use Rattle.oracle_replay.proofs.written.put_particles.Given as goal
 
-abbrev pub invariant-loop-i : goal.invariant-loop-i
-invariant-loop-i l = Pieces (λ k. words_bytes (particle_of (get_or l.particles k free_particle))) 64 l.initial.out l.initial.at l.out l.i l.at
-
-abbrev pub decreases-loop-i : goal.decreases-loop-i
-decreases-loop-i l = 64 - l.i
+abbrev pub invariant-loop-particle : goal.invariant-loop-particle
+invariant-loop-particle l = Pieces (λ k. words_bytes (particle_of (get_or l.particle-items k free_particle))) 64 l.initial.out l.initial.at l.out l.particle-index l.at

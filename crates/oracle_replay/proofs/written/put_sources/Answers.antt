@@ -8,19 +8,19 @@ use Rattle.text.proofs.Joined.{none_yet, one_more, all_there}
 use borrow.Author.Rules.{rules}
 use Rattle.oracle_replay.proofs.written.put_sources.Goals as goal
 
-pub loop-i-init : goal.loop-i-init
-loop-i-init c = none_yet _ _ _ _
+pub loop-source-init : goal.loop-source-init
+loop-source-init c = none_yet _ _ _ _
 
-pub loop-i-preserved : goal.loop-i-preserved
-loop-i-preserved c =
-    let l = c.loop-i in
+pub loop-source-preserved : goal.loop-source-preserved
+loop-source-preserved c =
+    let l = c.loop-source in
     let a = c.args in
-    let here = get_d_any a.sources l.i _ no_source (search rules) in
+    let here = get_d_any a.sources l.source-index _ no_source (search rules) in
     one_more l.invariant (search rules) (ap words_bytes (c.source-words.ensures ∙ ap source_words here)) c.put_words-at.ensures
 
 pub shape_of-out : goal.shape_of-out
-shape_of-out c = c.loop-i.invariant.same
+shape_of-out c = c.loop-source.invariant.same
 
 pub returns : goal.returns
 unfolding sources_bytes
-returns c = all_there c.loop-i.invariant (search rules)
+returns c = all_there c.loop-source.invariant (search rules)

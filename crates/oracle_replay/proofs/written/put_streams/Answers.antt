@@ -9,19 +9,19 @@ use Rattle.text.proofs.Joined.{none_yet, one_more, all_there}
 use borrow.Author.Rules.{rules}
 use Rattle.oracle_replay.proofs.written.put_streams.Goals as goal
 
-pub loop-i-init : goal.loop-i-init
-loop-i-init c = none_yet _ _ _ _
+pub loop-stream-init : goal.loop-stream-init
+loop-stream-init c = none_yet _ _ _ _
 
-pub loop-i-preserved : goal.loop-i-preserved
-loop-i-preserved c =
-    let l = c.loop-i in
+pub loop-stream-preserved : goal.loop-stream-preserved
+loop-stream-preserved c =
+    let l = c.loop-stream in
     let a = c.args in
-    let here = get_d_any a.streams l.i _ (new_of 0 false) (search rules) in
+    let here = get_d_any a.streams l.stream-index _ (new_of 0 false) (search rules) in
     one_more l.invariant (search rules) (ap words_bytes (c.stream-words.ensures ∙ ap stream_words here)) c.put_words-at.ensures
 
 pub shape_of-out : goal.shape_of-out
-shape_of-out c = c.loop-i.invariant.same
+shape_of-out c = c.loop-stream.invariant.same
 
 pub returns : goal.returns
 unfolding streams_bytes
-returns c = all_there c.loop-i.invariant (search rules)
+returns c = all_there c.loop-stream.invariant (search rules)

@@ -1,4 +1,4 @@
--- What the loop of `put_streams` keeps, and the measure by which it ends.
+-- What the loop of `put_streams` keeps.
 use Prim.Native.Nat.{◌-◌}
 use lib.ListN.{get_or}
 use mathlib.Core.Bool.{false}
@@ -8,8 +8,5 @@ use Rattle.oracle_replay.specs.State.{words_bytes}
 use Rattle.text.proofs.Joined.{Pieces}
 use Rattle.oracle_replay.proofs.written.put_streams.Given as goal
 
-abbrev pub invariant-loop-i : goal.invariant-loop-i
-invariant-loop-i l = Pieces (λ k. words_bytes (stream_words (get_or l.streams k (new_of 0 false)))) 3 l.initial.out l.initial.at l.out l.i l.at
-
-abbrev pub decreases-loop-i : goal.decreases-loop-i
-decreases-loop-i l = 3 - l.i
+abbrev pub invariant-loop-stream : goal.invariant-loop-stream
+invariant-loop-stream l = Pieces (λ k. words_bytes (stream_words (get_or l.stream-items k (new_of 0 false)))) 3 l.initial.out l.initial.at l.out l.stream-index l.at

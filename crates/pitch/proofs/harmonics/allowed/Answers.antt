@@ -1,15 +1,10 @@
 -- `allowed` meets its contract: a weight for each index.
-use Rattle.std.proofs.Common.{rules}
-use Rattle.sequences.specs.Table.{filled_none, filled_more, filled-all}
-use Rattle.pitch.specs.Partials.{allowed_of}
+use Rattle.std.proofs.Common.{get_or, rules}
+use lib.Ieee.{nan}
+use Rattle.sequences.specs.Calls.{tabled_by}
+use Rattle.pitch.specs.Partials.{kept_of, allowed_of}
 use Rattle.pitch.proofs.harmonics.allowed.Goals as goal
-
-pub loop-i-init : goal.loop-i-init
-loop-i-init c = filled_none _ 24 _ (search rules)
-
-pub loop-i-preserved : goal.loop-i-preserved
-loop-i-preserved c = filled_more c.loop-i.invariant _ (search rules) c.kept.ensures
 
 pub returns : goal.returns
 unfolding allowed_of
-returns c = filled-all c.loop-i.invariant (search rules)
+returns c = tabled_by _ (λ i. kept_of c.args.limit c.args.max_ratio i (get_or c.args.weights i nan)) _ (λ i y q k. search rules) c.from_fn.ensures.items

@@ -12,9 +12,9 @@ loop-i-init c = chosen_none _ _ _ _
 pub loop-i-preserved : goal.loop-i-preserved
 loop-i-preserved c = chosen_more c.loop-i.invariant _ (search rules) (ap (λ (w : Float). sub32 c.loop-i.left w) c.weight-left.ensures) c.if-left.false
 
-pub returns-then-i-count : goal.returns-then-i-count
+pub returns : goal.returns
 unfolding octave_chosen
-returns-then-i-count c = c.last.ensures ∙ chosen_end c.loop-i.invariant (search rules)
+returns c = c.last.ensures ∙ chosen_end c.loop-i.invariant (search rules)
 
 pub returns-then-left : goal.returns-then-left
 unfolding octave_chosen

@@ -1,22 +1,15 @@
--- `alternatives` meets its contract: the loop counts.
-use mathlib.Core.Path.{sym, ◌∙◌}
-use Rattle.sequences.specs.Pick.{picked, passed}
-use Rattle.sequences.specs.Walk.{walked_none, walked_more, walked_all}
-use borrow.Author.Rules.{rules}
+-- `alternatives` meets its contract: the slots that the filter passes are counted.
+use Rattle.std.proofs.Common.{◌∙◌, rules, tests}
+use Rattle.std.proofs.lemmas.Iterator.{YieldsList-from_slice}
+use Rattle.std.proofs.lemmas.Iterator.Consumers.{YieldsList-at, YieldsList-from_enumerate, YieldsList-from_filter, count_from_yields_List}
+use Rattle.sequences.specs.Chains.{counts}
+use Rattle.sources.specs.Choosing.{is_alternative}
 use Rattle.sources.proofs.choice.alternatives.Goals as goal
-use Rattle.sources.proofs.choice.alternatives.Goals.{then-alternative, else-alternative}
-
-pub loop-i-init : goal.loop-i-init
-loop-i-init c = (walked_none _ 256 _ 0 (search rules), search rules)
-
-pub loop-i-preserved : goal.loop-i-preserved
-loop-i-preserved c =
-    let m = c.loop-i.invariant.0 in
-    let e = c.alternative.ensures in
-    elim c.if-alternative.branch [
-      | then-alternative w ↦ (walked_more m _ _ (search rules) (w.n-is ∙ picked _ _ _ (sym e ∙ w.if-alternative.true)), search rules)
-      | else-alternative w ↦ (walked_more m _ _ (search rules) (w.n-is ∙ passed _ _ _ (sym e ∙ w.if-alternative.false)), search rules)
-    ]
 
 pub returns : goal.returns
-returns c = walked_all c.loop-i.invariant.0 (search rules)
+returns c =
+    count_from_yields_List c.filter.result _ c.count.ensures.ran
+    (YieldsList-from_filter _ (λ p. is_alternative c.args.last p.0 p.1)
+    (YieldsList-at c.filter.ensures.source (YieldsList-from_enumerate (YieldsList-at c.enumerate.ensures.source (YieldsList-from_slice c.args.sources cc)) cc))
+    c.filter.ensures.closure (λ x b q k. search (rules, tests)))
+    ∙ counts (is_alternative c.args.last) c.args.sources

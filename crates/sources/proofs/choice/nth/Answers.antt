@@ -1,31 +1,26 @@
--- `nth` meets its contract: the loop walks to it.
-use native.Mathlib.Omega.{arith}
-use mathlib.Core.Path.{sym, ◌∙◌}
-use Rattle.sequences.specs.Pick.{picked, passed}
-use Rattle.sequences.specs.Rest.{rest-none, rest-next, rest_here, rest_all}
-use borrow.Author.Tests.{eq-eqb, ne_eqb}
-use Rattle.sources.specs.Choosing.{nth_from}
-use borrow.Author.Rules.{rules}
+-- `nth` meets its contract: the n-th slot that the filter passes.
+use Rattle.std.proofs.Common.{sym, ap, ◌∙◌, rules, tests}
+use Rattle.std.specs.Option.{option_map}
+use Rattle.std.proofs.lemmas.Iterator.{YieldsList-from_slice}
+use Rattle.std.proofs.lemmas.Iterator.Consumers.{YieldsList-at, YieldsList-from_enumerate, YieldsList-from_filter, nth_from_yields_List}
+use Rattle.sources.specs.Choosing.{is_alternative}
+use Rattle.sources.proofs.Nth.{nth_some, nth_none}
 use Rattle.sources.proofs.choice.nth.Goals as goal
-use Rattle.sources.proofs.choice.nth.Goals.{then-alternative+else-left-eq0, else-alternative}
 
-pub loop-i-init : goal.loop-i-init
-loop-i-init c = rest-none _ 256 _ _ (search rules)
+pub returns-in-Some : goal.returns-in-Some
+returns-in-Some c =
+    nth_some c.args.last c.args.sources c.args.n (c.in-Some.i, c.in-Some.field-0-1.now)
+    (ap (option_map (λ p. (p.0, p.1.now))) (sym c.in-Some.is)
+    ∙ nth_from_yields_List c.nth-nth.result c.nth-nth.new.self c.args.n c.nth-nth.ensures.ran
+    (YieldsList-from_filter _ (λ p. is_alternative c.args.last p.0 p.1)
+    (YieldsList-at c.filter.ensures.source (YieldsList-from_enumerate (YieldsList-at c.enumerate.ensures.source (YieldsList-from_slice c.args.sources cc)) cc))
+    c.filter.ensures.closure (λ x b q k. search (rules, tests))))
 
-pub returns-then-left-eq0 : goal.returns-then-left-eq0
-unfolding nth_from
-returns-then-left-eq0 c = picked _ _ _ (eq-eqb _ _ c.if-left-eq0.true) ∙ picked _ _ _ (sym c.alternative.ensures ∙ c.if-alternative.true) ∙ sym (rest_here c.loop-i.invariant _ (search rules))
-
-pub loop-i-preserved : goal.loop-i-preserved
-unfolding nth_from
-loop-i-preserved c =
-    let m = c.loop-i.invariant in
-    let e = c.alternative.ensures in
-    elim c.if-alternative.branch [
-      | then-alternative+else-left-eq0 w ↦ rest-next m _ _ _ (search rules) w.left-is (sym (passed _ _ _ (ne_eqb _ _ w.if-left-eq0.false) ∙ picked _ _ _ (sym e ∙ w.if-alternative.true)))
-      | else-alternative w ↦ rest-next m _ _ _ (search rules) w.left-is (sym (passed _ _ _ (sym e ∙ w.if-alternative.false)))
-    ]
-
-pub returns : goal.returns
-unfolding nth_from
-returns c = sym (rest_all c.loop-i.invariant (search rules))
+pub returns-in-None : goal.returns-in-None
+returns-in-None c =
+    nth_none c.args.last c.args.sources c.args.n
+    (ap (option_map (λ p. (p.0, p.1.now))) (sym c.in-None.is)
+    ∙ nth_from_yields_List c.nth-nth.result c.nth-nth.new.self c.args.n c.nth-nth.ensures.ran
+    (YieldsList-from_filter _ (λ p. is_alternative c.args.last p.0 p.1)
+    (YieldsList-at c.filter.ensures.source (YieldsList-from_enumerate (YieldsList-at c.enumerate.ensures.source (YieldsList-from_slice c.args.sources cc)) cc))
+    c.filter.ensures.closure (λ x b q k. search (rules, tests))))

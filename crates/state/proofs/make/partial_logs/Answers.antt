@@ -1,16 +1,11 @@
--- `partial_logs` meets its contract: the loop fills the table.
-use Rattle.std.proofs.Common.{ap, ◌∙◌, rules}
-use Rattle.sequences.specs.Table.{filled_none, filled_more, filled-all}
-use Rattle.state.specs.Make.{partial_logs_of}
+-- `partial_logs` meets its contract: a logarithm for each index.
+use Rattle.std.proofs.Common.{◌+◌, pos, rules}
+use lib.Ieee.{binary32, of_int}
+use Rattle.sequences.specs.Calls.{tabled_by}
 use Rattle.elementary.specs.Log2.{log2_of}
+use Rattle.state.specs.Make.{partial_logs_of}
 use Rattle.state.proofs.make.partial_logs.Goals as goal
-
-pub loop-i-init : goal.loop-i-init
-loop-i-init c = filled_none _ 24 _ (search rules)
-
-pub loop-i-preserved : goal.loop-i-preserved
-loop-i-preserved c = filled_more c.loop-i.invariant _ (search rules) (c.log2.ensures ∙ ap log2_of c.u64_to_f32.ensures)
 
 pub returns : goal.returns
 unfolding partial_logs_of
-returns c = filled-all c.loop-i.invariant (search rules)
+returns c = tabled_by _ (λ i. log2_of (of_int binary32 (pos (i + 1)))) _ (λ i y q k. search rules) c.from_fn.ensures.items

@@ -1,17 +1,14 @@
--- `opened` meets its contract: a walk over the windows.
-use borrow.Author.Rules.{rules}
-use mathlib.Core.Path.{ap, ◌∙◌}
-use Rattle.sequences.specs.Walk.{walked_none, walked_more, walked_all}
-use Rattle.floats.specs.Choose.{max}
-use Rattle.windows.specs.Attenuation.{opened_by}
+-- `opened` meets its contract: a fold over the windows.
+use Rattle.std.proofs.Common.{◌∙◌, rules, tests}
+use Rattle.std.proofs.lemmas.Iterator.{YieldsList-from_slice}
+use Rattle.std.proofs.lemmas.Iterator.Consumers.{fold_from_yields_List}
+use Rattle.sequences.specs.Chains.{folds}
+use Rattle.floats.specs.Names.{zero32}
+use Rattle.windows.specs.Attenuation.{opening, opened_by}
 use Rattle.windows.proofs.attenuation.opened.Goals as goal
-
-pub loop-i-init : goal.loop-i-init
-loop-i-init c = walked_none _ 192 _ _ (search rules)
-
-pub loop-i-preserved : goal.loop-i-preserved
-loop-i-preserved c = walked_more c.loop-i.invariant _ _ (search rules) (c.max32-widest.ensures ∙ ap (max _) c.openness.ensures)
 
 pub returns : goal.returns
 unfolding opened_by
-returns c = walked_all c.loop-i.invariant (search rules)
+returns c =
+    fold_from_yields_List _ (λ o w. opening c.args.log2_hz 0 w o) zero32 _ c.fold.ensures.ran (YieldsList-from_slice c.args.windows cc) (λ a x b q k. search (rules, tests))
+    ∙ folds (λ o w. opening c.args.log2_hz 0 w o) c.args.windows zero32
