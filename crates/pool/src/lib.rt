@@ -3,7 +3,6 @@
 #![tactic(auto)]
 
 ghost use Rattle.std.specs.Prelude.{◌≡◌, map};
-ghost use Rattle.pool.specs.declared.Particle.{Particle};
 ghost use Rattle.pool.specs.Pool.{free_particle, retired_of, retire_one, retire_bound_one, retune_one};
 
 mod vacancies;
@@ -71,26 +70,14 @@ fn retire_one(p: Particle, sample: u64) -> Particle
     p
 }
 
-// Each place's particle as f makes it anew. The library's `map` was tried: it copies every particle twice
-// more, and a call took 2 microseconds longer.
-fn each<F: Fn(Particle) -> Particle>(
-    particles: [Particle; MAX_PARTICLES],
-    f: F,
-) -> [Particle; MAX_PARTICLES]
-    requires { F.IsAlwaysCallable f }
-    ensures { (h : Particle → Particle) → ((p q : Particle) → F.post f p q → q ≡ h p) → result ≡ map h particles }
-{
-    let mut out = particles;
-    for p in out.iter_mut() {
-        *p = f(*p);
-    }
-    out
-}
-
 pub fn retire_all(particles: [Particle; MAX_PARTICLES], sample: u64) -> [Particle; MAX_PARTICLES]
     ensures { result ≡ map (retire_one sample) particles }
 {
-    each(particles, |p| retire_one(p, sample))
+    let mut out = particles;
+    for p in out.iter_mut() {
+        *p = retire_one(*p, sample);
+    }
+    out
 }
 
 fn retire_bound_one(p: Particle, slot: usize, sample: u64) -> Particle
@@ -110,7 +97,11 @@ pub fn retire_bound(
 ) -> [Particle; MAX_PARTICLES]
     ensures { result ≡ map (retire_bound_one slot sample) particles }
 {
-    each(particles, |p| retire_bound_one(p, slot, sample))
+    let mut out = particles;
+    for p in out.iter_mut() {
+        *p = retire_bound_one(*p, slot, sample);
+    }
+    out
 }
 
 fn retune_one(p: Particle, slot: usize, hz: f32) -> Particle
@@ -131,5 +122,9 @@ pub fn retune(
 ) -> [Particle; MAX_PARTICLES]
     ensures { result ≡ map (retune_one slot hz) particles }
 {
-    each(particles, |p| retune_one(p, slot, hz))
+    let mut out = particles;
+    for p in out.iter_mut() {
+        *p = retune_one(*p, slot, hz);
+    }
+    out
 }

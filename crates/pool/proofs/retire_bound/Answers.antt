@@ -1,7 +1,13 @@
--- `retire_bound` meets its contract: one place like the other.
-use Rattle.std.proofs.Common.{rules}
-use Rattle.pool.specs.Pool.{retire_bound_one}
+-- `retire_bound` meets its contract: the loop maps the places one after the other.
+use Rattle.sequences.specs.Upto.{mapped_none, mapped_more, mapped_all}
+use borrow.Author.Rules.{rules}
 use Rattle.pool.proofs.retire_bound.Goals as goal
 
+pub loop-p-init : goal.loop-p-init
+loop-p-init c = mapped_none _ 64 _ (search rules)
+
+pub loop-p-preserved : goal.loop-p-preserved
+loop-p-preserved c = mapped_more c.loop-p.invariant _ _ (search rules) c.retire_bound_one.ensures
+
 pub returns : goal.returns
-returns c = c.each.ensures (retire_bound_one c.args.slot c.args.sample) (λ p q e. search rules)
+returns c = mapped_all c.loop-p.invariant (search rules)
