@@ -100,6 +100,7 @@ fn write_masks(
 ) {
     let mut walk = mask_files::start();
     let mut records: u64 = 0;
+    // A walk of unknown length, each step from where the last one ended: nothing to go over.
     loop {
         let step = mask_files::next_record(walk, script, depth_db, logs, scratch, out, 0);
         let made = step.made;

@@ -116,6 +116,7 @@ fn put_fields(
     let mut n = n;
     let mut at = at;
     let mut w = w;
+    // A field's length is known when it is read: nothing to go over.
     loop {
         let turn = listing::one_turn(run, n, at, script);
         let k = turn.taken;

@@ -86,6 +86,7 @@ fn read_script(script: &mut [u8], size: usize) -> usize
     ensures { result ≤ length script.old }
 {
     let mut at: usize = 0;
+    // A line says how far it reaches: nothing to go over.
     while at < size {
         let end = read_line(script, at);
         if end <= at {
@@ -145,6 +146,7 @@ fn replay(script: &mut [u8], want: &mut [u8], out: &mut [u8]) {
     let mut line = [0u8; 84];
     let mut cases: u64 = 0;
     let mut wrong: u64 = 0;
+    // The count is said in the end, and input ends the loop.
     while cases < 1000000 {
         if vectors::next(&mut line) < 84 {
             break;

@@ -14,7 +14,7 @@ module _ {A B : Type 0} (f : A → B) where
   get_d_map (x ∷ xs) zero d = refl
   get_d_map (x ∷ xs) (suc i) d = get_d_map xs i d
 
-  pub table_maps : (n : ℕ) (xs : List A) (d : A) → length xs ≡ n → table n (λ i. f (get_or xs i d)) ≡ map f xs
+  table_maps : (n : ℕ) (xs : List A) (d : A) → length xs ≡ n → table n (λ i. f (get_or xs i d)) ≡ map f xs
   table_maps n xs d e =
       ext_get_or (f d) (table n (λ i. f (get_or xs i d))) (map f xs) (length_table n (λ i. f (get_or xs i d)) ∙ sym e ∙ sym (length_map xs))
       (λ j l. table_at n (λ i. f (get_or xs i d)) j (f d) (omega (arith, length_table n (λ i. f (get_or xs i d)))) ∙ sym (get_d_map xs j d))

@@ -17,9 +17,10 @@ fn partial_logs() -> [f32; MAX_PARTIALS]
 pub fn weights(partial_logs: [f32; MAX_PARTIALS], rolloff_db: f32) -> [f32; MAX_PARTIALS]
     ensures { result ≡ weights_of partial_logs rolloff_db }
 {
-    let mut out = partial_logs;
-    for log in out.iter_mut() {
-        *log = elementary::db_to_gain(-rolloff_db * *log);
+    let mut out = [0.0; MAX_PARTIALS];
+    // The library's `map`, and `iter_mut`, were tried: a change of settings took 6.6 and 4.4 us, this 3.7.
+    for i in 0..MAX_PARTIALS {
+        out[i] = elementary::db_to_gain(-rolloff_db * partial_logs[i]);
     }
     out
 }
