@@ -1,8 +1,8 @@
 pub mod Order
-pub mod Floor
+pub mod Floored
 pub mod Residues
 pub mod Count
-pub mod Rem
+pub mod Remainders
 pub mod Once
 pub mod RemExact
 pub mod Division
@@ -17,3 +17,5 @@ pub mod SameBits
 pub mod Rounded
 pub mod Sign
 pub mod Words
+pub mod Library
+pub mod Chosen
