@@ -10,7 +10,6 @@ pub mod Below
 pub mod Inside
 pub mod Facts
 pub mod Values
-pub mod Sat
 pub mod Pack
 pub mod Narrow
 pub mod SameBits

@@ -1,6 +1,6 @@
--- Words: a difference that wraps, a product by halves, and a rotation by two shifts.
-use Rattle.std.proofs.Common.{◌≡◌, ℕ, zero, suc, refl, ◌+◌, ◌-◌, ◌*◌, ◌/◌, ◌%◌, ◌^◌, ◌<◌, ◌≤◌, sym, ap, ◌∙◌, subst, lt_of_le_of_lt, le_of_lt, mod-eq_of_lt, mul_assoc, mul_comm, add-mul, mul-le-mul_left, mul-lt-mul_of_pos_right, div-add-mod', mul-one, div-one, mul-add, mul_left_comm, arith, pow_pos, pow-add, shr_lt}
-use native.Mathlib.Nat.{add-mod, mul-mod_left, mul-add-mod_self_right, div-eq_of_lt}
+-- Words: a difference that wraps, a product that fits, and a rotation by two shifts.
+use Rattle.std.proofs.Common.{◌≡◌, ℕ, zero, suc, refl, ◌+◌, ◌-◌, ◌*◌, ◌/◌, ◌%◌, ◌^◌, ◌<◌, ◌≤◌, sym, ap, ◌∙◌, subst, lt_of_le_of_lt, le_of_lt, mod-eq_of_lt, mul-le-mul_left, mul-lt-mul_of_pos_right, mul-one, div-one, arith, pow_pos, pow-add, shr_lt}
+use native.Mathlib.Nat.{mul-mod_left, div-eq_of_lt}
 use mathlib.Core.Path.{subst⁻¹}
 use lib.Bits.{bit_or, or_self, or_shifted}
 use lib.Pow.{shl-shr, mod-pow-add}
@@ -15,30 +15,6 @@ pub product-fits : (j k : ℕ) {a b : ℕ} → a < 2 ^ j → b < 2 ^ k → a * b
 product-fits j k {a} {b} ha hb =
     subst⁻¹ (λ (n : ℕ). a * b < n) (pow-add 2 j k)
     (lt_of_le_of_lt (mul-le-mul_left a (le_of_lt hb)) (mul-lt-mul_of_pos_right ha (pow_pos k)))
-
-module _ (h : ℕ) where
-  -- s times h, but for whole multiples of h * h
-  drops : (s c : ℕ) → (s % h * h + c) % (h * h) ≡ (s * h + c) % (h * h)
-  drops s c =
-      sym
-      (ap (λ (n : ℕ). (n * h + c) % (h * h)) (sym (div-add-mod' s h))
-      ∙ ap (λ (n : ℕ). n % (h * h)) (regroup (s / h) (s % h) c)
-      ∙ mul-add-mod_self_right (s / h) (h * h) (s % h * h + c))
-    where
-      regroup : (q r c : ℕ) → (q * h + r) * h + c ≡ q * (h * h) + (r * h + c)
-      regroup q r c = omega (arith, add-mul (q * h) r h, mul_assoc q h h)
-
-  pub by_halves : (a b : ℕ) → ((a / h * (b % h) % h + a % h * (b / h) % h) % h * h + a % h * (b % h)) % (h * h) ≡ a * b % (h * h)
-  by_halves a b =
-      ap (λ (n : ℕ). (n * h + a % h * (b % h)) % (h * h)) (sym (add-mod (a / h * (b % h)) (a % h * (b / h)) h))
-      ∙ drops (a / h * (b % h) + a % h * (b / h)) (a % h * (b % h))
-      ∙ sym
-      (ap (λ (n : ℕ). n * b % (h * h)) (sym (div-add-mod' a h)) ∙ ap (λ (n : ℕ). (a / h * h + a % h) * n % (h * h)) (sym (div-add-mod' b h))
-      ∙ ap (λ (n : ℕ). n % (h * h)) (spread (a / h) (a % h) (b / h) (b % h))
-      ∙ mul-add-mod_self_right (a / h * (b / h)) (h * h) ((a / h * (b % h) + a % h * (b / h)) * h + a % h * (b % h)))
-    where
-      spread : (p q r s : ℕ) → (p * h + q) * (r * h + s) ≡ p * r * (h * h) + ((p * s + q * r) * h + q * s)
-      spread p q r s = simp (add-mul, mul-add, mul_assoc, mul_comm, mul_left_comm) (omega arith)
 
 -- ---- rotation
 turned_none : (x n : ℕ) → x < 2 ^ 64 → n % 64 ≡ 0 → x ≡ rotated x n
