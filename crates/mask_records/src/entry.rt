@@ -26,7 +26,7 @@ pub fn all_numbers(level: f32, opened: &[f32]) -> bool
 {
     let mut ok = true;
     for i in 0..opened.len() {
-        ok = floats::both(ok, is_number(attenuation(level, opened[i])));
+        ok = ok & is_number(attenuation(level, opened[i]));
     }
     ok
 }

@@ -99,7 +99,7 @@ pub const MAX_RATE: f32 = 384000.0;
 pub fn lawful_rate(sample_rate: f32) -> bool
     ensures { result ≡ lawful_rate sample_rate }
 {
-    if floats::is_finite32(sample_rate) {
+    if floats::is_finite(sample_rate) {
         if sample_rate >= MIN_RATE {
             sample_rate <= MAX_RATE
         } else {

@@ -51,7 +51,7 @@ pub fn same(a: Source, b: Source) -> bool
 pub fn pitched(x: f32) -> bool
     ensures { result ≡ is_pitched x }
 {
-    if floats::is_finite32(x) {
+    if floats::is_finite(x) {
         x > 0.0
     } else {
         false

@@ -26,7 +26,7 @@ fn hash(before: u64, index: u64, sample: u64, p: Particle) -> u64
 {
     let partials = p.partials;
     let turned = floats::rotate_left(sample, 19);
-    let bits = floats::bits32(p.frequency_hz) as u64;
+    let bits = floats::bits(p.frequency_hz) as u64;
     let word = word(partials[0], partials[1], partials[2]);
     draws::mix(before ^ index ^ turned ^ bits ^ word)
 }

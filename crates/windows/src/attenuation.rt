@@ -12,7 +12,7 @@ fn opened(windows: [Window; 192], log2_hz: f32) -> f32
     let mut widest = 0.0;
     for i in 0..192 {
         let w = windows[i];
-        widest = floats::max32(widest, crate::openness(w, log2_hz));
+        widest = floats::max(widest, crate::openness(w, log2_hz));
     }
     widest
 }
@@ -23,11 +23,11 @@ pub fn attenuation_db(frame: Frame, frequency_hz: f32, depth_db: f32) -> f32
     if depth_db <= 0.0 {
         return 0.0;
     }
-    let log = elementary::log2(floats::max32(
+    let log = elementary::log2(floats::max(
         frequency_hz,
         0.000000000000000000000000000000000000011754944,
     ));
     let windows = frame.windows;
     let openness = opened(windows, log);
-    floats::clamp32(depth_db, 0.0, 60.0) * frame.activity * (1.0 - openness)
+    floats::clamp(depth_db, 0.0, 60.0) * frame.activity * (1.0 - openness)
 }

@@ -4,12 +4,12 @@ use Rattle.settings.proofs.lawful_rate.Goals as goal
 
 pub returns-then-sample_rate : goal.returns-then-sample_rate
 unfolding lawful_rate
-returns-then-sample_rate c = rw (← c.is_finite32.ensures, c.if-is_finite32.true, c.if-sample_rate.true)
+returns-then-sample_rate c = rw (← c.is_finite.ensures, c.if-is_finite.true, c.if-sample_rate.true)
 
 pub returns-else-sample_rate : goal.returns-else-sample_rate
 unfolding lawful_rate
-returns-else-sample_rate c = rw (← c.is_finite32.ensures, c.if-is_finite32.true, c.if-sample_rate.false)
+returns-else-sample_rate c = rw (← c.is_finite.ensures, c.if-is_finite.true, c.if-sample_rate.false)
 
-pub returns-else-is_finite32 : goal.returns-else-is_finite32
+pub returns-else-is_finite : goal.returns-else-is_finite
 unfolding lawful_rate
-returns-else-is_finite32 c = rw (← c.is_finite32.ensures, c.if-is_finite32.false)
+returns-else-is_finite c = rw (← c.is_finite.ensures, c.if-is_finite.false)

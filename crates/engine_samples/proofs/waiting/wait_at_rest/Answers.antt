@@ -11,7 +11,7 @@ loop-count-preserved c =
     let inv = c.loop-count.invariant in (
       inv.0,
       underway_more _ _ _ _ _ _ _ inv.1 c.loop-count-test.true (sym c.nothing_due.ensures ∙ c.if-nothing_due.true)
-          (clock-after _ _ _ _ _ _ _ c.wrapping_add_u64-sample.ensures.value c.pick64-phase.ensures (sym inv.0)),
+          (clock-after _ _ _ _ _ _ _ c.wrapping_add_u64-sample.ensures.value c.pick-phase.ensures (sym inv.0)),
     )
 
 pub returns-after-loop-count : goal.returns-after-loop-count

@@ -10,7 +10,7 @@ pub loop-i-init : goal.loop-i-init
 loop-i-init c = walked_none _ 192 _ _ (search rules)
 
 pub loop-i-preserved : goal.loop-i-preserved
-loop-i-preserved c = walked_more c.loop-i.invariant _ _ (search rules) (c.max32-widest.ensures ∙ ap (max _) c.openness.ensures)
+loop-i-preserved c = walked_more c.loop-i.invariant _ _ (search rules) (c.max-widest.ensures ∙ ap (max _) c.openness.ensures)
 
 pub returns : goal.returns
 unfolding opened_by
