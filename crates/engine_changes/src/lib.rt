@@ -199,7 +199,7 @@ fn sought_opportunity(phase: f64, reference: f64) -> u64
 {
     let opportunity = floats::to_u64(floats::floor(phase));
     if timing::timing_reference(opportunity) <= reference {
-        return std::num::wrapping_add_u64(opportunity, 1);
+        return opportunity.wrapping_add(1);
     }
     opportunity
 }

@@ -51,7 +51,7 @@ pub fn lanes(engine: Engine, reference: f64) -> Engine
 fn opportunity_after(opportunity: u64, reference: f64) -> u64
     ensures { result ≡ opportunity_after opportunity reference }
 {
-    let after = std::num::wrapping_add_u64(opportunity, 1);
+    let after = opportunity.wrapping_add(1);
     let whole = floats::to_u64(floats::max(floats::floor(reference), 0.0));
     if after < whole {
         return whole;

@@ -85,7 +85,7 @@ pub fn tempo_of(config: Config, sample_rate: f64, phase_alpha: f64) -> Tempo
 pub fn clock_after(clock: Clock, tempo: Tempo) -> Clock
     ensures { result ≡ clock_after tempo clock }
 {
-    let sample = std::num::wrapping_add_u64(clock.sample, 1);
+    let sample = clock.sample.wrapping_add(1);
     let phase = floats::pick(tempo.scheduled, clock.phase + tempo.step, clock.phase);
     let phase_offset = sample::glide(clock.phase_offset, tempo.phase, tempo.alpha);
     Clock {
@@ -130,7 +130,7 @@ fn wait_at_rest(clock: Clock, starts: Starts, tempo: Tempo, n: u64) -> Waited
         if nothing_due(phase + phase_offset, starts) {} else {
             break;
         }
-        sample = std::num::wrapping_add_u64(sample, 1);
+        sample = sample.wrapping_add(1);
         phase = floats::pick(tempo.scheduled, phase + tempo.step, phase);
         count = count + 1;
     }
@@ -169,7 +169,7 @@ fn wait_gliding(clock: Clock, starts: Starts, tempo: Tempo, n: u64) -> Waited
         if same_bits(quick, phase_offset) {
             break;
         }
-        sample = std::num::wrapping_add_u64(sample, 1);
+        sample = sample.wrapping_add(1);
         phase = floats::pick(tempo.scheduled, phase + tempo.step, phase);
         phase_offset = quick;
         count = count + 1;
@@ -209,7 +209,7 @@ pub fn wait(clock: Clock, starts: Starts, tempo: Tempo, n: u64) -> Waited
             };
         }
         let here = Clock {
-            sample: std::num::wrapping_add_u64(sample, 1),
+            sample: sample.wrapping_add(1),
             phase: floats::pick(tempo.scheduled, phase + tempo.step, phase),
             phase_offset: later,
         };

@@ -513,7 +513,7 @@ pub extern "C" fn rk_probe_strength(index: u64, root_hz: f32, max_hz: f32, way: 
 fn weight_of(seed: u64, i: u64) -> f32
     ensures { result ≡ weight_from seed i }
 {
-    let word = draws::mix(std::num::wrapping_add_u64(seed, i));
+    let word = draws::mix(seed.wrapping_add(i));
     floats::of_bits((word % 4294967296) as u32)
 }
 

@@ -122,7 +122,7 @@ fn digest(bytes: &[u8]) -> u64 {
     let mut i: usize = 0;
     while i < bytes.len() {
         let turned = floats::rotate_left(h, 7) ^ wide(bytes[i]);
-        h = std::num::wrapping_add_u64(draws::mix(turned), 0x9e3779b97f4a7c15);
+        h = draws::mix(turned).wrapping_add(0x9e3779b97f4a7c15);
         i = i + 1;
     }
     h
