@@ -8,6 +8,7 @@ pub fn byte(s: &[u8], i: usize) -> u8
     s.get(i).copied().unwrap_or(0)
 }
 
+// By halves: of `from_be_bytes`, tried, each number takes an instruction or two more.
 pub fn be16_at(s: &[u8], i: usize) -> u16
     ensures { result ≡ be16 s.now i }
 {

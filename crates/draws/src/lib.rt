@@ -7,7 +7,7 @@ ghost use Rattle.draws.specs.Draws.{mix_of, random_of, key_of, stream_of};
 
 pub const SEED: u64 = 0x7765_6674_7061_7274;
 
-// The streams. Numbers 4, 6 and 9 are not in use.
+// The streams. Numbers 4, 6 and 9 are not in use. No enum: the weighted draws count on from the last.
 pub const TIMING: u64 = 0;
 
 pub const SOURCE: u64 = 1;

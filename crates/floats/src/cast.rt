@@ -75,7 +75,7 @@ fn narrowed(b: u64) -> f32
     }
 }
 
-// To the nearest, a tie to the even one.
+// To the nearest, a tie to the even one. The library's `nearest_f64_to_f32_with_nan`, tried, took half as long again.
 pub fn f64_to_f32(x: f64) -> f32
     ensures { result ≡ convert binary32 x }
 {
@@ -91,7 +91,8 @@ pub fn f64_to_f32(x: f64) -> f32
     }
 }
 
-// To the nearest, a tie to the even one. By way of an f64 it would round twice.
+// To the nearest, a tie to the even one. By way of an f64 it would round twice. The
+// library's `nearest_u64_to_f32`, tried, took half as long again.
 pub fn u64_to_f32(n: u64) -> f32
     ensures { result ≡ of_int binary32 (pos n) }
 {
