@@ -5,9 +5,10 @@ ghost use Rattle.big_endian.specs.Numbers.{be16, be32, be64, f32_at, f64_at, fla
 pub fn byte(s: &[u8], i: usize) -> u8
     ensures { result ≡ get_or s.now i 0 }
 {
-    if i < s.len() { s[i] } else { 0 }
+    s.get(i).copied().unwrap_or(0)
 }
 
+// By halves: of `from_be_bytes`, tried, each number takes an instruction or two more.
 pub fn be16_at(s: &[u8], i: usize) -> u16
     ensures { result ≡ be16 s.now i }
 {
@@ -38,13 +39,13 @@ pub fn be64_at(s: &[u8], i: usize) -> u64
 pub fn f32_at(s: &[u8], i: usize) -> f32
     ensures { result ≡ f32_at s.now i }
 {
-    floats::of_bits32(be32_at(s, i))
+    floats::of_bits(be32_at(s, i))
 }
 
 pub fn f64_at(s: &[u8], i: usize) -> f64
     ensures { result ≡ f64_at s.now i }
 {
-    floats::of_bits64(be64_at(s, i))
+    floats::of_bits(be64_at(s, i))
 }
 
 pub fn flag_at(s: &[u8], i: usize) -> bool

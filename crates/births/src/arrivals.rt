@@ -24,7 +24,7 @@ pub struct Arrival {
 fn try_one(tally: Tally) -> Tally
     ensures { result ≡ tried_one tally }
 {
-    let attempts = std::num::wrapping_add_u64(tally.attempts, 1);
+    let attempts = tally.attempts.wrapping_add(1);
     let mut out = tally;
     out.attempts = attempts;
     out

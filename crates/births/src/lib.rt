@@ -132,7 +132,7 @@ pub fn newborn(
         active: true,
         source: voice.slot,
         birth: sample,
-        lifetime: floats::f32_to_f64(contour.lifetime),
+        lifetime: f64::from(contour.lifetime),
         frequency_hz: hz,
         octave: register.octave,
         width,

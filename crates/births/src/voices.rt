@@ -20,7 +20,7 @@ pub struct Voice {
 fn free_root(phase: f64) -> f32
     ensures { result ≡ free_root_of phase }
 {
-    let phrase = floats::f64_to_u64(floats::floor64(phase / timing::SPRINKLE_GROUP_CYCLES));
+    let phrase = floats::to_u64(floats::floor(phase / timing::SPRINKLE_GROUP_CYCLES));
     FREE_ROOT_MIN_HZ * elementary::pow8(draws::random(phrase, draws::FREE_ROOT))
 }
 
@@ -51,6 +51,6 @@ pub fn source_voice(slot: usize, source: Source) -> Voice
     Voice {
         slot: Some(slot),
         frequency_hz: source.frequency_hz,
-        strength: floats::clamp32(source.strength, 0.0, 1.0),
+        strength: floats::clamp(source.strength, 0.0, 1.0),
     }
 }

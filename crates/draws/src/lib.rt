@@ -7,7 +7,7 @@ ghost use Rattle.draws.specs.Draws.{mix_of, random_of, key_of, stream_of};
 
 pub const SEED: u64 = 0x7765_6674_7061_7274;
 
-// The streams. Numbers 4, 6 and 9 are not in use.
+// The streams. Numbers 4, 6 and 9 are not in use. No enum: the weighted draws count on from the last.
 pub const TIMING: u64 = 0;
 
 pub const SOURCE: u64 = 1;
@@ -30,23 +30,28 @@ pub const PARTIAL_COUNT: u64 = 12;
 
 pub const PARTIAL_DRAWS: u64 = 13;
 
-// By its place in the original's heading, from 0 on; the last is the first of three.
+// In the order of the original's heading, but for the last, which is the first of three.
+const STREAMS: [u64; 10] = [
+    TIMING,
+    SOURCE,
+    REGISTER,
+    LIFETIME,
+    GROUPING,
+    WIDTH,
+    FREE_TIMING,
+    OPENING,
+    FREE_ROOT,
+    PARTIAL_COUNT,
+];
+
+// By its place in the original's heading, from 0 on.
 pub fn stream(place: u64) -> u64
     ensures { result ≡ stream_of place }
 {
-    match place {
-        0 => TIMING,
-        1 => SOURCE,
-        2 => REGISTER,
-        3 => LIFETIME,
-        4 => GROUPING,
-        5 => WIDTH,
-        6 => FREE_TIMING,
-        7 => OPENING,
-        8 => FREE_ROOT,
-        9 => PARTIAL_COUNT,
-        _ => PARTIAL_DRAWS,
-    }
+    STREAMS
+        .get(place as usize)
+        .copied()
+        .unwrap_or(PARTIAL_DRAWS)
 }
 
 pub fn mix(x: u64) -> u64

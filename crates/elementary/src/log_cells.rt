@@ -1,4 +1,5 @@
 // The 64 cells of a logarithm's fraction, as a `match`, which becomes read-only tables.
+// A type of its own beside the powers' cells: their numbers are others, each with its table's laws.
 ghost use Rattle.std.specs.Prelude.{◌≡◌, ◌<◌};
 ghost use Rattle.elementary.specs.LogCells.{log_top, log_slope, log_bend};
 

@@ -2,7 +2,7 @@
 // docs/FUNCTIONS.md (tests/vectors/elementary.rs), and says how many differ.
 #![tactic(auto)]
 
-use vectors::{answer, first, operation};
+use vectors::{Cases, answer, first, operation};
 
 fn bits_of(op: u64, x: f32) -> u64 {
     let r = match op {
@@ -14,30 +14,22 @@ fn bits_of(op: u64, x: f32) -> u64 {
         5 => elementary::sqrt(x),
         _ => elementary::db_to_gain(x),
     };
-    floats::bits32(r) as u64
+    floats::bits(r) as u64
 }
 
-fn differs(line: &[u8; 84]) -> bool {
-    let op = operation(line);
-    let a = first(line);
-    if op == 7 {
-        return floats::bits64(elementary::exp64(floats::of_bits64(a))) != answer(line);
+struct Elementary;
+
+impl Cases for Elementary {
+    fn differs(line: &[u8; 84]) -> bool {
+        let op = operation(line);
+        let a = first(line);
+        if op == 7 {
+            return floats::bits(elementary::exp64(floats::of_bits(a))) != answer(line);
+        }
+        bits_of(op, floats::of_bits((a % 4294967296) as u32)) != answer(line)
     }
-    bits_of(op, floats::of_bits32((a % 4294967296) as u32)) != answer(line)
 }
 
 fn main() {
-    let mut line = [0u8; 84];
-    let mut cases: u64 = 0;
-    let mut wrong: u64 = 0;
-    while cases < 1000000 {
-        if vectors::next(&mut line) < 84 {
-            break;
-        }
-        cases = cases + 1;
-        if differs(&line) {
-            wrong = wrong + 1;
-        }
-    }
-    vectors::say(cases, wrong);
+    vectors::run::<Elementary>();
 }

@@ -55,7 +55,7 @@ fn offset(engine: Engine, phase: f32) -> Engine
     ensures { result ≡ offset engine phase }
 {
     if engine.clock.sample == 0 {
-        let to = floats::f32_to_f64(phase);
+        let to = f64::from(phase);
         let mut out = engine;
         out.clock.phase_offset = to;
         return out;
@@ -155,8 +155,8 @@ pub fn set_note_input_present(engine: Engine, present: bool) -> Engine
 fn sought_phase(cycles: f64) -> f64
     ensures { result ≡ sought_phase cycles }
 {
-    if floats::is_finite64(cycles) {
-        return floats::rem_euclid64(cycles, 1000000000.0);
+    if floats::is_finite(cycles) {
+        return floats::rem_euclid(cycles, 1000000000.0);
     }
     0.0
 }
@@ -165,9 +165,9 @@ fn sought_phase(cycles: f64) -> f64
 fn sought_opportunity(phase: f64, reference: f64) -> u64
     ensures { result ≡ sought_opportunity phase reference }
 {
-    let opportunity = floats::f64_to_u64(floats::floor64(phase));
+    let opportunity = floats::to_u64(floats::floor(phase));
     if timing::timing_reference(opportunity) <= reference {
-        return std::num::wrapping_add_u64(opportunity, 1);
+        return opportunity.wrapping_add(1);
     }
     opportunity
 }
@@ -178,7 +178,7 @@ pub fn seek(engine: Engine, cycles: f64) -> Engine
 {
     let retired = retire_all(engine);
     let phase = sought_phase(cycles);
-    let phase_offset = floats::f32_to_f64(engine.config.phase);
+    let phase_offset = f64::from(engine.config.phase);
     let clock = Clock {
         sample: engine.clock.sample,
         phase,

@@ -46,8 +46,8 @@ pub fn lanes(engine: Engine, reference: f64) -> Engine
 fn opportunity_after(opportunity: u64, reference: f64) -> u64
     ensures { result ≡ opportunity_after opportunity reference }
 {
-    let after = std::num::wrapping_add_u64(opportunity, 1);
-    let whole = floats::f64_to_u64(floats::max64(floats::floor64(reference), 0.0));
+    let after = opportunity.wrapping_add(1);
+    let whole = floats::to_u64(floats::max(floats::floor(reference), 0.0));
     if after < whole {
         return whole;
     }
@@ -85,14 +85,14 @@ fn within_a_cycle(x: f64) -> f64
             return x;
         }
     }
-    floats::rem_euclid64(x, 1.0)
+    floats::rem_euclid(x, 1.0)
 }
 
 // The offset glides to the setting by the shorter way.
 pub fn glide(phase_offset: f64, phase: f32, alpha: f64) -> f64
     ensures { result ≡ glided_of phase_offset phase alpha }
 {
-    let to = floats::f32_to_f64(phase) - phase_offset + 0.5;
+    let to = f64::from(phase) - phase_offset + 0.5;
     let difference = within_a_cycle(to) - 0.5;
     phase_offset + difference * alpha
 }

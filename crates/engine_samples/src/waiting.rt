@@ -66,7 +66,7 @@ pub fn next_starts(
             }
         };
     }
-    let never = floats::of_bits64(0x7ff0_0000_0000_0000);
+    let never = floats::of_bits(0x7ff0_0000_0000_0000);
     starts_at(never, never, never)
 }
 
@@ -75,7 +75,7 @@ pub fn tempo_of(config: Config, sample_rate: f64, phase_alpha: f64) -> Tempo
 {
     Tempo {
         scheduled: config.scheduled,
-        step: floats::f32_to_f64(config.rate_hz) / sample_rate,
+        step: f64::from(config.rate_hz) / sample_rate,
         phase: config.phase,
         alpha: phase_alpha,
     }
@@ -85,8 +85,8 @@ pub fn tempo_of(config: Config, sample_rate: f64, phase_alpha: f64) -> Tempo
 pub fn clock_after(clock: Clock, tempo: Tempo) -> Clock
     ensures { result ≡ clock_after tempo clock }
 {
-    let sample = std::num::wrapping_add_u64(clock.sample, 1);
-    let phase = floats::pick64(tempo.scheduled, clock.phase + tempo.step, clock.phase);
+    let sample = clock.sample.wrapping_add(1);
+    let phase = floats::pick(tempo.scheduled, clock.phase + tempo.step, clock.phase);
     let phase_offset = sample::glide(clock.phase_offset, tempo.phase, tempo.alpha);
     Clock {
         sample,
@@ -114,7 +114,7 @@ fn nothing_due(reference: f64, starts: Starts) -> bool
 fn same_bits(a: f64, b: f64) -> bool
     ensures { result ≡ (to_bits binary64 a == to_bits binary64 b) }
 {
-    floats::bits64(a) == floats::bits64(b)
+    floats::bits(a) == floats::bits(b)
 }
 
 // With an offset that stays: two sums a sample, for the reference and for the phase.
@@ -131,8 +131,8 @@ fn wait_at_rest(clock: Clock, starts: Starts, tempo: Tempo, n: u64) -> Waited
         if nothing_due(phase + phase_offset, starts) {} else {
             break;
         }
-        sample = std::num::wrapping_add_u64(sample, 1);
-        phase = floats::pick64(tempo.scheduled, phase + tempo.step, phase);
+        sample = sample.wrapping_add(1);
+        phase = floats::pick(tempo.scheduled, phase + tempo.step, phase);
         count = count + 1;
     }
     let clock = Clock {
@@ -155,8 +155,8 @@ fn wait_gliding(clock: Clock, starts: Starts, tempo: Tempo, n: u64) -> Waited
     let mut sample = clock.sample;
     let mut phase = clock.phase;
     let mut phase_offset = clock.phase_offset;
-    let setting = floats::f32_to_f64(tempo.phase);
-    let aim = setting - floats::floor64(setting - phase_offset + 0.5);
+    let setting = f64::from(tempo.phase);
+    let aim = setting - floats::floor(setting - phase_offset + 0.5);
     let mut count: u64 = 0;
     // Counts what it answers: the samples until something is due.
     while count < n {
@@ -171,8 +171,8 @@ fn wait_gliding(clock: Clock, starts: Starts, tempo: Tempo, n: u64) -> Waited
         if same_bits(quick, phase_offset) {
             break;
         }
-        sample = std::num::wrapping_add_u64(sample, 1);
-        phase = floats::pick64(tempo.scheduled, phase + tempo.step, phase);
+        sample = sample.wrapping_add(1);
+        phase = floats::pick(tempo.scheduled, phase + tempo.step, phase);
         phase_offset = quick;
         count = count + 1;
     }
@@ -212,8 +212,8 @@ pub fn wait(clock: Clock, starts: Starts, tempo: Tempo, n: u64) -> Waited
             };
         }
         let here = Clock {
-            sample: std::num::wrapping_add_u64(sample, 1),
-            phase: floats::pick64(tempo.scheduled, phase + tempo.step, phase),
+            sample: sample.wrapping_add(1),
+            phase: floats::pick(tempo.scheduled, phase + tempo.step, phase),
             phase_offset: later,
         };
         count = count + 1;

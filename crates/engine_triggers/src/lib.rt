@@ -36,7 +36,7 @@ pub fn reserve_trigger(engine: Engine) -> Reserved
     ensures { result ≡ reserved_of engine }
 {
     let index = engine.next.immediate_index;
-    let after = std::num::wrapping_add_u64(index, 1);
+    let after = index.wrapping_add(1);
     let mut out = engine;
     out.next.immediate_index = after;
     Reserved { index, engine: out }
@@ -96,6 +96,6 @@ pub fn trigger(engine: Engine, slot: usize) -> Triggered
     ensures { result ≡ triggered_of engine slot }
 {
     let index = engine.next.immediate_index;
-    let next = std::num::wrapping_add_u64(index, 1);
+    let next = index.wrapping_add(1);
     fire(engine, slot, index, next)
 }

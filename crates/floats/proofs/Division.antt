@@ -7,7 +7,7 @@ use Rattle.floats.proofs.Narrow.{nan_above}
 use Rattle.floats.proofs.Pack.{inf_pattern}
 use Rattle.floats.proofs.Residues.{places_off}
 use Rattle.floats.proofs.Count.{Count, count-value, count-pattern, turned, turned_round, by_size}
-use Rattle.floats.proofs.Rem.{rem_counts}
+use Rattle.floats.proofs.Remainders.{rem_counts}
 
 -- ---- a pattern without its sign
 abbrev shift : ℕ → ℕ

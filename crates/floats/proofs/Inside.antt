@@ -4,7 +4,7 @@ use lib.Ieee.{Float, fin, Format, add, lt, le, fits}
 use Rattle.floats.specs.Choose.{abs}
 use Rattle.floats.specs.Remainder.{rem_euclid}
 use Rattle.floats.proofs.Below.{le_not_lt}
-use Rattle.floats.proofs.Rem.{rem_inside}
+use Rattle.floats.proofs.Remainders.{rem_inside}
 
 pub euclid_inside : (f : Format) (x m : Float) → T (fits f x) → le (fin false 0 (pos 0)) x ≡ true → lt x m ≡ true → x ≡ rem_euclid f x m
 unfolding rem_euclid

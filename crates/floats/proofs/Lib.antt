@@ -1,8 +1,8 @@
 pub mod Order
-pub mod Floor
+pub mod Floored
 pub mod Residues
 pub mod Count
-pub mod Rem
+pub mod Remainders
 pub mod Once
 pub mod RemExact
 pub mod Division
@@ -10,10 +10,11 @@ pub mod Below
 pub mod Inside
 pub mod Facts
 pub mod Values
-pub mod Sat
 pub mod Pack
 pub mod Narrow
 pub mod SameBits
 pub mod Rounded
 pub mod Sign
 pub mod Words
+pub mod Library
+pub mod Chosen

@@ -8,7 +8,7 @@ use lib.Ieee.Exact.{HasValue, round_exact}
 use lib.Ieee.Digits.{back}
 use Rattle.floats.proofs.Values.{fine, steps, own-count, unique}
 use Rattle.floats.proofs.Residues.{gathered, mod_scaled, places_off}
-use Rattle.floats.proofs.Rem.{rest-counts}
+use Rattle.floats.proofs.Remainders.{rest-counts}
 
 -- r has at most p digits that are not zeros at its end
 record Short (p r : ℕ) : Type 0 where

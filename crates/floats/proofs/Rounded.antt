@@ -1,13 +1,10 @@
--- What is rounded is a number, over the format: no NaN comes of it. So only a finite number's difference from itself is one.
-use Rattle.std.proofs.Common.{◌≡◌, ℕ, zero, suc, ◌+◌, ◌-◌, ◌*◌, ◌^◌, Bool, true, false, cond, not, ◌&&◌, T, ltb, ◌∙◌}
+-- What is rounded is a number, over the format: no NaN comes of it.
+use Rattle.std.proofs.Common.{ℕ, zero, suc, ◌+◌, ◌-◌, ◌*◌, ◌^◌, Bool, true, false, cond, not, ◌&&◌, T, ltb}
 use mathlib.Core.Bool.{beq}
-use lib.Ieee.{Float, nan, inf, fin, Format, prec, emax, low, odd, units, up, down, round, sum, add, sub, neg, eq, is_nan}
-use lib.Ieee.Bits.{is_true}
+use lib.Ieee.{Float, inf, Format, prec, emax, low, odd, units, round, sum, is_nan}
 use lib.Ieee.Fits.{round_is}
 use lib.Ieee.Order as Order
 use lib.Ieee.Order.{drop}
-use lib.Ieee.Scale.{finite}
-use Rattle.floats.proofs.Facts.{eq_self}
 
 odd_number : (d : ℕ) (s : Bool) (q k l : ℕ) → T (not (is_nan (odd d s q k l)))
 unfolding odd is_nan
@@ -31,11 +28,3 @@ module _ (f : Format) where
   sum_number s a t b c =
       cond_number (beq s t) (round f s (a + b) c) (cond (ltb a b) (round f t (b - a) c) (round f (s && ltb b a) (a - b) c)) (round_number f s (a + b) c)
       (cond_number (ltb a b) (round f t (b - a) c) (round f (s && ltb b a) (a - b) c) (round_number f t (b - a) c) (round_number f (s && ltb b a) (a - b) c))
-
-  -- only a finite number's difference from itself is a number
-  pub self_apart : (x : Float) → eq (sub f x x) (sub f x x) ≡ finite x
-  unfolding sub add neg is_nan
-  self_apart nan = eq_self nan
-  self_apart (inf true) = eq_self nan
-  self_apart (inf false) = eq_self nan
-  self_apart (fin s m e) = eq_self (sum f s (m * up e * down e) (not s) (m * up e * down e) (down e * down e)) ∙ is_true _ (sum_number s (m * up e * down e) (not s) (m * up e * down e) (down e * down e))

@@ -1,8 +1,8 @@
--- Words: a difference that wraps, a product by halves, and a rotation by two shifts.
-use Rattle.std.proofs.Common.{◌≡◌, ℕ, ◌+◌, ◌-◌, ◌*◌, ◌/◌, ◌%◌, ◌^◌, ◌<◌, ◌≤◌, sym, ap, ◌∙◌, subst, lt_of_le_of_lt, le_of_lt, mod-eq_of_lt, mul_assoc, mul_comm, add-mul, mul-le-mul_left, mul-lt-mul_of_pos_right, div-add-mod', mul-one, mul-add, mul_left_comm, arith, pow_pos, pow-add, shr_lt}
-use native.Mathlib.Nat.{add-mod, mul-mod_left, mul-add-mod_self_right, div-eq_of_lt}
+-- Words: a difference that wraps, a product that fits, and a rotation by two shifts.
+use Rattle.std.proofs.Common.{◌≡◌, ℕ, zero, suc, refl, ◌+◌, ◌-◌, ◌*◌, ◌/◌, ◌%◌, ◌^◌, ◌<◌, ◌≤◌, sym, ap, ◌∙◌, subst, lt_of_le_of_lt, le_of_lt, mod-eq_of_lt, mul-le-mul_left, mul-lt-mul_of_pos_right, mul-one, div-one, arith, pow_pos, pow-add, shr_lt}
+use native.Mathlib.Nat.{mul-mod_left, div-eq_of_lt}
 use mathlib.Core.Path.{subst⁻¹}
-use lib.Bits.{bit_or, or_shifted}
+use lib.Bits.{bit_or, or_self, or_shifted}
 use lib.Pow.{shl-shr, mod-pow-add}
 use Rattle.floats.specs.Word.{difference, rotated}
 
@@ -16,32 +16,8 @@ product-fits j k {a} {b} ha hb =
     subst⁻¹ (λ (n : ℕ). a * b < n) (pow-add 2 j k)
     (lt_of_le_of_lt (mul-le-mul_left a (le_of_lt hb)) (mul-lt-mul_of_pos_right ha (pow_pos k)))
 
-module _ (h : ℕ) where
-  -- s times h, but for whole multiples of h * h
-  drops : (s c : ℕ) → (s % h * h + c) % (h * h) ≡ (s * h + c) % (h * h)
-  drops s c =
-      sym
-      (ap (λ (n : ℕ). (n * h + c) % (h * h)) (sym (div-add-mod' s h))
-      ∙ ap (λ (n : ℕ). n % (h * h)) (regroup (s / h) (s % h) c)
-      ∙ mul-add-mod_self_right (s / h) (h * h) (s % h * h + c))
-    where
-      regroup : (q r c : ℕ) → (q * h + r) * h + c ≡ q * (h * h) + (r * h + c)
-      regroup q r c = omega (arith, add-mul (q * h) r h, mul_assoc q h h)
-
-  pub by_halves : (a b : ℕ) → ((a / h * (b % h) % h + a % h * (b / h) % h) % h * h + a % h * (b % h)) % (h * h) ≡ a * b % (h * h)
-  by_halves a b =
-      ap (λ (n : ℕ). (n * h + a % h * (b % h)) % (h * h)) (sym (add-mod (a / h * (b % h)) (a % h * (b / h)) h))
-      ∙ drops (a / h * (b % h) + a % h * (b / h)) (a % h * (b % h))
-      ∙ sym
-      (ap (λ (n : ℕ). n * b % (h * h)) (sym (div-add-mod' a h)) ∙ ap (λ (n : ℕ). (a / h * h + a % h) * n % (h * h)) (sym (div-add-mod' b h))
-      ∙ ap (λ (n : ℕ). n % (h * h)) (spread (a / h) (a % h) (b / h) (b % h))
-      ∙ mul-add-mod_self_right (a / h * (b / h)) (h * h) ((a / h * (b % h) + a % h * (b / h)) * h + a % h * (b % h)))
-    where
-      spread : (p q r s : ℕ) → (p * h + q) * (r * h + s) ≡ p * r * (h * h) + ((p * s + q * r) * h + q * s)
-      spread p q r s = simp (add-mul, mul-add, mul_assoc, mul_comm, mul_left_comm) (omega arith)
-
 -- ---- rotation
-pub turned_none : (x n : ℕ) → x < 2 ^ 64 → n % 64 ≡ 0 → x ≡ rotated x n
+turned_none : (x n : ℕ) → x < 2 ^ 64 → n % 64 ≡ 0 → x ≡ rotated x n
 unfolding rotated
 turned_none x n h e = rw (e, mul-one x, mod-eq_of_lt h, div-eq_of_lt h) (omega arith)
 
@@ -57,9 +33,9 @@ high_part x k h =
     none : (n : ℕ) → n + 0 ≡ n
     none n = omega arith
 
-pub turned : (x n : ℕ) → x < 2 ^ 64 → bit_or (x * 2 ^ (n % 64) % 2 ^ 64) (x / 2 ^ (64 - n % 64)) ≡ rotated x n
+under : (x n : ℕ) → x < 2 ^ 64 → 0 < n % 64 → bit_or (x * 2 ^ (n % 64) % 2 ^ 64) (x / 2 ^ (64 - n % 64)) ≡ rotated x n
 unfolding rotated
-turned x n h =
+under x n h p =
     let k = n % 64 in
     let l : k ≤ 64 = omega arith in
     ap (λ (y : ℕ). bit_or y (x / 2 ^ (64 - k))) (high_part x k l) ∙ or_shifted (x % 2 ^ (64 - k)) k (x / 2 ^ (64 - k)) (shr_lt k (64 - k) (subst (λ (j : ℕ). x < 2 ^ j) (split k l) h))
@@ -67,3 +43,11 @@ turned x n h =
   where
     split : (k : ℕ) → k ≤ 64 → 64 ≡ k + (64 - k)
     split k h = omega arith
+
+-- by the two shifts, of which the second is by 64 - n % 64 places, or none
+pub turned : (x n : ℕ) → x < 2 ^ 64 → bit_or (x * 2 ^ (n % 64) % 2 ^ 64) (x / 2 ^ ((64 - n % 64) % 64)) ≡ rotated x n
+turned x n h = go (n % 64) refl
+  where
+    go : (k : ℕ) → n % 64 ≡ k → bit_or (x * 2 ^ (n % 64) % 2 ^ 64) (x / 2 ^ ((64 - n % 64) % 64)) ≡ rotated x n
+    go zero e = ap (λ (k : ℕ). bit_or (x * 2 ^ k % 2 ^ 64) (x / 2 ^ ((64 - k) % 64))) e ∙ rw (mul-one x, div-one x, mod-eq_of_lt h) (or_self x) ∙ turned_none x n h e
+    go (suc k) e = ap (λ (j : ℕ). bit_or (x * 2 ^ (n % 64) % 2 ^ 64) (x / 2 ^ j)) (mod-eq_of_lt (omega arith)) ∙ under x n h (omega arith)

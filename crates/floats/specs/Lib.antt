@@ -4,3 +4,4 @@ pub mod Remainder
 pub mod Convert
 pub mod Choose
 pub mod Word
+pub mod Real

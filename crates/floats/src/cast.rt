@@ -5,57 +5,25 @@ ghost use Rattle.std.specs.Float.Ieee.{of_int, to_unsigned};
 ghost use Rattle.std.specs.Float.Ieee.Nearest.{closest};
 ghost use Rattle.floats.specs.Convert.{convert};
 
+use crate::real::Real;
+
 // Toward zero, to the nearer end of the range, and 0 for a NaN.
-pub fn f64_to_u64(x: f64) -> u64
-    ensures { result ≡ to_unsigned 64 x }
+pub fn to_u64<T: Real>(x: T) -> u64
+    ensures { result ≡ to_unsigned 64 (T.value x) }
 {
-    if x > -1.0 {
-        if x < 18446744073709551616.0 {
-            std::num::truncating_f64_to_u64(x)
-        } else {
-            u64::MAX
-        }
-    } else {
-        0
-    }
+    std::num::saturating_f64_to_u64(x.wide())
 }
 
-pub fn f64_to_u32(x: f64) -> u32
-    ensures { result ≡ to_unsigned 32 x }
+pub fn to_u32<T: Real>(x: T) -> u32
+    ensures { result ≡ to_unsigned 32 (T.value x) }
 {
-    let n = f64_to_u64(x);
-    if n < 4294967296 { n as u32 } else { u32::MAX }
+    std::num::saturating_f64_to_u32(x.wide())
 }
 
-pub fn f64_to_usize(x: f64) -> usize
-    ensures { result ≡ to_unsigned 64 x }
+pub fn to_usize<T: Real>(x: T) -> usize
+    ensures { result ≡ to_unsigned 64 (T.value x) }
 {
-    f64_to_u64(x) as usize
-}
-
-pub fn f32_to_u64(x: f32) -> u64
-    ensures { result ≡ to_unsigned 64 x }
-{
-    f64_to_u64(f32_to_f64(x))
-}
-
-pub fn f32_to_u32(x: f32) -> u32
-    ensures { result ≡ to_unsigned 32 x }
-{
-    f64_to_u32(f32_to_f64(x))
-}
-
-pub fn f32_to_usize(x: f32) -> usize
-    ensures { result ≡ to_unsigned 64 x }
-{
-    f32_to_u64(x) as usize
-}
-
-// The wider format holds every f32.
-pub fn f32_to_f64(x: f32) -> f64
-    ensures { result ≡ x }
-{
-    std::num::f32_to_f64_with_nan(x)
+    std::num::saturating_f64_to_usize(x.wide())
 }
 
 // n / u to the nearest whole number, a tie to the even one.
@@ -107,14 +75,14 @@ fn narrowed(b: u64) -> f32
     }
 }
 
-// To the nearest, a tie to the even one.
+// To the nearest, a tie to the even one. The library's `nearest_f64_to_f32_with_nan`, tried, took half as long again.
 pub fn f64_to_f32(x: f64) -> f32
     ensures { result ≡ convert binary32 x }
 {
     if x != x {
         0.0 / 0.0
     } else {
-        let b = f64::to_bits(x);
+        let b = x.to_bits();
         if b < 9223372036854775808 {
             narrowed(b)
         } else {
@@ -123,14 +91,15 @@ pub fn f64_to_f32(x: f64) -> f32
     }
 }
 
-// To the nearest, a tie to the even one. By way of an f64 it would round twice.
+// To the nearest, a tie to the even one. By way of an f64 it would round twice. The
+// library's `nearest_u64_to_f32`, tried, took half as long again.
 pub fn u64_to_f32(n: u64) -> f32
     ensures { result ≡ of_int binary32 (pos n) }
 {
     if n < 4294967296 {
         std::num::nearest_u32_to_f32(n as u32)
     } else {
-        let z = u64::leading_zeros(n) as u64;
+        let z = n.leading_zeros() as u64;
         pack32(189 - z, nearest_part(n, 1u64 << (40 - z)))
     }
 }

@@ -5,19 +5,13 @@
 mod cast;
 mod choices;
 mod modulo;
-mod pattern;
+mod real;
 mod remainder;
 mod whole;
 mod word;
 
-pub use cast::{
-    f32_to_f64, f32_to_u32, f32_to_u64, f32_to_usize, f64_to_f32, f64_to_u32, f64_to_u64,
-    f64_to_usize, u64_to_f32,
-};
-pub use choices::{
-    abs32, both, clamp32, is_finite32, is_finite64, max32, max64, min32, pick32, pick64, step_if,
-};
-pub use pattern::{bits32, bits64, of_bits32, of_bits64};
-pub use remainder::{rem_euclid32, rem_euclid64, rem32, rem64};
-pub use whole::{ceil32, ceil64, floor32, floor64};
-pub use word::{rotate_left, wrapping_mul};
+pub use cast::{f64_to_f32, to_u32, to_u64, to_usize, u64_to_f32};
+pub use choices::{abs, clamp, is_finite, max, min, pick, step_if};
+pub use remainder::{rem, rem_euclid};
+pub use whole::{ceil, floor};
+pub use word::{bits, of_bits, rotate_left, wrapping_mul};

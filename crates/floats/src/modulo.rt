@@ -2,12 +2,10 @@
 // is q * 2^k of the smallest one, 2^-1074, where q has at most 53 digits, and its pattern is
 // k * 2^52 + q. So the remainder is that of the two counts, by long division.
 ghost use Rattle.std.specs.Prelude.{◌≡◌, ◌-◌, ◌*◌, ◌/◌, ◌%◌, ◌^◌, ◌<◌, ◌≤◌, false};
-ghost use Rattle.std.specs.Float.{binary32, binary64};
+ghost use Rattle.std.specs.Float.{binary64};
 ghost use Rattle.std.specs.Float.Ieee.{rem, round};
 
-use crate::cast::f32_to_f64;
-use crate::choices::pick64;
-use crate::pattern::bits64;
+use crate::choices::pick;
 
 // How far the digits of the pattern p, which has no sign, are shifted up: its k.
 fn shift(p: u64) -> u64
@@ -52,7 +50,7 @@ fn assembled(r: u64, k: u64) -> f64
     if r == 0 {
         return 0.0;
     }
-    let z = u64::leading_zeros(r) as u64 - 11;
+    let z = r.leading_zeros() as u64 - 11;
     if k < z {
         return f64::from_bits(moved(r, k));
     }
@@ -61,12 +59,14 @@ fn assembled(r: u64, k: u64) -> f64
 
 // A NaN where x is not finite, or m is a NaN or zero. A dividend with the lesser shift is its own
 // remainder, also of an infinity. The sign is the dividend's.
-pub fn divided(x: f64, m: f64) -> f64
+// Inlined, so that a divisor that a caller writes out is folded: the engine's is 1.
+#[inline]
+fn divided(x: f64, m: f64) -> f64
     ensures { result ≡ rem binary64 x m }
 {
-    let p = bits64(x);
+    let p = std::num::f64_to_bits_with_nan(x);
     let a = p % 9223372036854775808;
-    let b = bits64(m) % 9223372036854775808;
+    let b = std::num::f64_to_bits_with_nan(m) % 9223372036854775808;
     if a >= 9218868437227405312 {
         return 0.0 / 0.0;
     }
@@ -83,12 +83,25 @@ pub fn divided(x: f64, m: f64) -> f64
     }
     let r = scaled_rem(a - i * 4503599627370496, i - j, b - j * 4503599627370496);
     let v = assembled(r, j);
-    pick64(p >= 9223372036854775808, -v, v)
+    pick(p >= 9223372036854775808, -v, v)
 }
 
-// Of two f32. The remainder is exact, so it is the same number in both formats.
-pub fn divided32(x: f32, m: f32) -> f64
-    ensures { result ≡ rem binary32 x m }
+// A number from 0 up to below the divisor is its own remainder, and up to below its double the
+// difference; any other goes the long way.
+#[inline]
+pub fn remainder(x: f64, m: f64) -> f64
+    ensures { result ≡ rem binary64 x m }
 {
-    divided(f32_to_f64(x), f32_to_f64(m))
+    if x >= 0.0 {
+        if m > x {
+            return x;
+        }
+        if m > 0.0 {
+            let rest = x - m;
+            if m > rest {
+                return rest;
+            }
+        }
+    }
+    divided(x, m)
 }

@@ -1,25 +1,30 @@
-// Rust's `wrapping_mul` and `rotate_left` on u64.
-ghost use Rattle.std.specs.Prelude.{◌≡◌};
+// A word's operations and a float's bits. All NaNs count as one: each is written with one pattern,
+// and each NaN pattern is read as the NaN.
+ghost use Rattle.std.specs.Prelude.{◌≡◌, to_bits, from_bits};
 ghost use Rattle.floats.specs.Word.{product, rotated};
 
-// By halves: the upper halves' product lies past the word, and of the mixed ones the lower half counts.
+use crate::real::Real;
+
+pub fn bits<T: Real>(x: T) -> T::Bits
+    ensures { result ≡ T.of_number (to_bits T.format (T.value x)) }
+{
+    x.bits()
+}
+
+pub fn of_bits<T: Real>(b: T::Bits) -> T
+    ensures { result ≡ T.of (from_bits T.format (T.number b)) }
+{
+    T::of_bits(b)
+}
+
 pub fn wrapping_mul(a: u64, b: u64) -> u64
     ensures { result ≡ product a b }
 {
-    let a1 = a / 4294967296;
-    let a0 = a % 4294967296;
-    let b1 = b / 4294967296;
-    let b0 = b % 4294967296;
-    let mixed = (a1 * b0 % 4294967296 + a0 * b1 % 4294967296) % 4294967296;
-    std::num::wrapping_add_u64(mixed * 4294967296, a0 * b0)
+    a.wrapping_mul(b)
 }
 
 pub fn rotate_left(x: u64, n: u32) -> u64
     ensures { result ≡ rotated x n }
 {
-    let k = n % 64;
-    if k == 0 {
-        return x;
-    }
-    (x << k) | (x >> (64 - k))
+    x.rotate_left(n)
 }

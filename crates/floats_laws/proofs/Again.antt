@@ -14,7 +14,7 @@ use Rattle.floats_laws.proofs.Keys.{key, lt_key}
 use Rattle.floats_laws.proofs.Rules.{le_left, le_right, le→key}
 use Rattle.floats_laws.proofs.Rising.{nought}
 use Rattle.floats_laws.proofs.Units.{zero_fits}
-use Rattle.floats.proofs.Rem.{rem_inside}
+use Rattle.floats.proofs.Remainders.{rem_inside}
 
 -- ---- held from a to b, where b is not below a and both are numbers
 module _ (x a b : Float) (u : lt a a ≡ false) (v : lt b a ≡ false) (w : lt b b ≡ false) where

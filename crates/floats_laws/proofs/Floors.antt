@@ -9,7 +9,7 @@ use lib.Ieee.{Float, nan, inf, fin, binary32, up, down, fits}
 use lib.Ieee.Exact.{HasValue}
 use lib.Ieee.Fits.{down_pos}
 use Rattle.floats.specs.Whole.{floor, ceil}
-use Rattle.floats.proofs.Floor.{up_one}
+use Rattle.floats.proofs.Floored.{up_one}
 use Rattle.floats_laws.proofs.Integral.{lift_most, floor-is, ceil-is-up}
 use Rattle.floats_laws.proofs.Mag.{Mag}
 use Rattle.floats_laws.proofs.Mono.{times}

@@ -14,7 +14,7 @@ use lib.Ieee.Back.{round_whole}
 use lib.Ieee.Nearest.{div_mono}
 use Rattle.floats.specs.Whole.{floor, ceil, cut, lift, Cut, Lifted, Whole, Floored, Ceiled}
 use Rattle.floats.proofs.Values.{fine, unique}
-use Rattle.floats.proofs.Floor.{kept, lift_le, ceil-is, floor-fits, floor-number, up_one}
+use Rattle.floats.proofs.Floored.{kept, lift_le, ceil-is, floor-fits, floor-number, up_one}
 use Rattle.floats_laws.proofs.Keys.{key}
 use Rattle.floats_laws.proofs.Mono.{plus, minus, signed_key, signed_key-rises, round_signed_key, le→signed}
 use Rattle.floats_laws.proofs.Rules.{key→le, le_left, le_right}

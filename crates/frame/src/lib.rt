@@ -29,19 +29,19 @@ pub struct Framed {
 fn activity(before: f32, enabled: bool, elapsed_seconds: f32) -> f32
     ensures { result ≡ activity_of before enabled elapsed_seconds }
 {
-    let target = floats::pick32(enabled, 1.0, 0.0);
+    let target = floats::pick(enabled, 1.0, 0.0);
     let step = 1.0 - elementary::exp(-elapsed_seconds / TRANSITION_SECONDS);
     let after = before + (target - before) * step;
     if enabled {
         return after;
     }
-    floats::pick32(after < 0.000001, 0.0, after)
+    floats::pick(after < 0.000001, 0.0, after)
 }
 
 fn accepts(elapsed_seconds: f32) -> bool
     ensures { result ≡ accepted elapsed_seconds }
 {
-    if floats::is_finite32(elapsed_seconds) {
+    if floats::is_finite(elapsed_seconds) {
         elapsed_seconds >= 0.0
     } else {
         false

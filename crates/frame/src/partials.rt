@@ -11,8 +11,8 @@ use windows::Window;
 fn radius(width: f32, bin_hz: f32, hz: f32) -> f32
     ensures { result ≡ radius_of width bin_hz hz }
 {
-    let bin = floats::max32(bin_hz, 0.0) / floats::max32(hz, 1.0);
-    floats::max32(width, elementary::log2(1.0 + bin))
+    let bin = floats::max(bin_hz, 0.0) / floats::max(hz, 1.0);
+    floats::max(width, elementary::log2(1.0 + bin))
 }
 
 // The row of a harmonic in the table of logarithms. For what is none it lies past the table's end: 0,

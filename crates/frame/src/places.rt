@@ -20,7 +20,7 @@ pub struct Shown {
 fn seconds(since: u64, sample: u64, rate: f64) -> f64
     ensures { result ≡ seconds_of since sample rate }
 {
-    let elapsed = std::num::wrapping_sub_u64(sample, since);
+    let elapsed = sample.wrapping_sub(since);
     if elapsed < 4294967296 {
         return (elapsed as f64) / rate;
     }

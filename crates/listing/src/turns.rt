@@ -250,7 +250,7 @@ fn take_turns(until: Until, run: Run, n: u64, at: usize, script: &[u8]) -> Reach
                 let taken = said.taken;
                 if goes_on(until, line, taken) {
                     at = at + taken;
-                    n = std::num::wrapping_add_u64(n, 1);
+                    n = n.wrapping_add(1);
                 } else {
                     let run = Run { engine, frame };
                     return reach(told(run, line, taken), n, at);

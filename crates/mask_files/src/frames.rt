@@ -21,7 +21,7 @@ fn behind(reached: Reached) -> Walk
 {
     let turn = reached.turn;
     let run = turn.run;
-    let n = std::num::wrapping_add_u64(reached.n, 1);
+    let n = reached.n.wrapping_add(1);
     Walk {
         run,
         n,

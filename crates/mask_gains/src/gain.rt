@@ -13,7 +13,7 @@ use windows::{Frame, Window};
 pub fn level(depth_db: f32, activity: f32) -> f32
     ensures { result ≡ level_of depth_db activity }
 {
-    -floats::clamp32(depth_db, 0.0, 60.0) * activity
+    -floats::clamp(depth_db, 0.0, 60.0) * activity
 }
 
 fn gain_at(level: f32, openness: f32) -> f32

@@ -18,7 +18,7 @@ fn raise(w: Window, logs: &[f32], scratch: &mut [f32], start: usize, end: usize)
     for i in start..end {
         let o = scratch[i];
         let v = windows::openness(w, logs[i]);
-        scratch[i] = floats::pick32(o < v, v, o);
+        scratch[i] = floats::pick(o < v, v, o);
     }
 }
 

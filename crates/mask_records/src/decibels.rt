@@ -53,6 +53,6 @@ pub fn table() -> [u16; 601]
 pub fn tenths(attenuation_db: f32) -> usize
     ensures { result ≡ tenths_of attenuation_db }
 {
-    let held = floats::clamp32(attenuation_db, 0.0, 60.0);
-    floats::f64_to_usize(floats::f32_to_f64(held) * 10.0 + 0.5)
+    let held = floats::clamp(attenuation_db, 0.0, 60.0);
+    floats::to_usize(f64::from(held) * 10.0 + 0.5)
 }

@@ -26,7 +26,7 @@ pub fn all_numbers(level: f32, opened: &[f32]) -> bool
 {
     let mut ok = true;
     for openness in opened {
-        ok = floats::both(ok, is_number(attenuation(level, *openness)));
+        ok = ok & is_number(attenuation(level, *openness));
     }
     ok
 }

@@ -14,16 +14,11 @@ fn is_headed(s: &[u8]) -> bool
     ensures { result ≡ headed s.now }
 {
     let n = be16_at(s, 11) as usize;
-    floats::both(
-        floats::both(byte(s, 0) == 32, be16_at(s, 1) == 10),
-        floats::both(
-            floats::both(1 <= n, n <= 8193),
-            floats::both(
-                floats::both(byte(s, 13) == 33, be16_at(s, 14) as usize == 2 * n),
-                16 + 2 * n <= s.len(),
-            ),
-        ),
-    )
+    (byte(s, 0) == 32)
+        & (be16_at(s, 1) == 10)
+        & ((1 <= n)
+            & (n <= 8193)
+            & ((byte(s, 13) == 33) & (be16_at(s, 14) as usize == 2 * n) & (16 + 2 * n <= s.len())))
 }
 
 fn all_entries(gains: &[u16; 601], s: &[u8], n: usize) -> bool

@@ -111,7 +111,7 @@ fn write_masks(
                 }
                 let sent = io::write_all(1, &out[..after]);
                 if sent {
-                    records = std::num::wrapping_add_u64(records, 1);
+                    records = records.wrapping_add(1);
                     let next = step.walk;
                     walk = next;
                 } else {

@@ -32,7 +32,7 @@ pub extern "C" fn rk_probe_active_counts(events: u64, asked: bool) -> u64
         let triggered = engine::trigger(engine, 0);
         engine = triggered.engine;
         if asked {
-            sum = std::num::wrapping_add_u64(sum, engine::active_count(engine) as u64);
+            sum = sum.wrapping_add(engine::active_count(engine) as u64);
         }
     }
     sum

@@ -39,112 +39,112 @@ pub use records::{rk_probe_entry, rk_probe_read_record, rk_probe_tenths, rk_prob
 pub extern "C" fn rk_probe_floor32(x: f32) -> f32
     ensures { result ≡ floor binary32 x }
 {
-    floats::floor32(x)
+    floats::floor(x)
 }
 
 #[unsafe(no_mangle)]
 pub extern "C" fn rk_probe_ceil32(x: f32) -> f32
     ensures { result ≡ ceil binary32 x }
 {
-    floats::ceil32(x)
+    floats::ceil::<f32>(x)
 }
 
 #[unsafe(no_mangle)]
 pub extern "C" fn rk_probe_floor64(x: f64) -> f64
     ensures { result ≡ floor binary64 x }
 {
-    floats::floor64(x)
+    floats::floor(x)
 }
 
 #[unsafe(no_mangle)]
 pub extern "C" fn rk_probe_ceil64(x: f64) -> f64
     ensures { result ≡ ceil binary64 x }
 {
-    floats::ceil64(x)
+    floats::ceil(x)
 }
 
 #[unsafe(no_mangle)]
 pub extern "C" fn rk_probe_max32(x: f32, y: f32) -> f32
     ensures { result ≡ max x y }
 {
-    floats::max32(x, y)
+    floats::max(x, y)
 }
 
 #[unsafe(no_mangle)]
 pub extern "C" fn rk_probe_min32(x: f32, y: f32) -> f32
     ensures { result ≡ min x y }
 {
-    floats::min32(x, y)
+    floats::min(x, y)
 }
 
 #[unsafe(no_mangle)]
 pub extern "C" fn rk_probe_max64(x: f64, y: f64) -> f64
     ensures { result ≡ max x y }
 {
-    floats::max64(x, y)
+    floats::max(x, y)
 }
 
 #[unsafe(no_mangle)]
 pub extern "C" fn rk_probe_clamp32(x: f32, a: f32, b: f32) -> f32
     ensures { result ≡ clamp x a b }
 {
-    floats::clamp32(x, a, b)
+    floats::clamp(x, a, b)
 }
 
 #[unsafe(no_mangle)]
 pub extern "C" fn rk_probe_abs32(x: f32) -> f32
     ensures { result ≡ abs x }
 {
-    floats::abs32(x)
+    floats::abs(x)
 }
 
 #[unsafe(no_mangle)]
 pub extern "C" fn rk_probe_is_finite32(x: f32) -> bool
     ensures { result ≡ finite x }
 {
-    floats::is_finite32(x)
+    floats::is_finite(x)
 }
 
 #[unsafe(no_mangle)]
 pub extern "C" fn rk_probe_is_finite64(x: f64) -> bool
     ensures { result ≡ finite x }
 {
-    floats::is_finite64(x)
+    floats::is_finite(x)
 }
 
 #[unsafe(no_mangle)]
 pub extern "C" fn rk_probe_f64_to_u64(x: f64) -> u64
     ensures { result ≡ to_unsigned 64 x }
 {
-    floats::f64_to_u64(x)
+    floats::to_u64(x)
 }
 
 #[unsafe(no_mangle)]
 pub extern "C" fn rk_probe_f64_to_u32(x: f64) -> u32
     ensures { result ≡ to_unsigned 32 x }
 {
-    floats::f64_to_u32(x)
+    floats::to_u32(x)
 }
 
 #[unsafe(no_mangle)]
 pub extern "C" fn rk_probe_f32_to_u64(x: f32) -> u64
     ensures { result ≡ to_unsigned 64 x }
 {
-    floats::f32_to_u64(x)
+    floats::to_u64(x)
 }
 
 #[unsafe(no_mangle)]
 pub extern "C" fn rk_probe_f32_to_u32(x: f32) -> u32
     ensures { result ≡ to_unsigned 32 x }
 {
-    floats::f32_to_u32(x)
+    floats::to_u32(x)
 }
 
 #[unsafe(no_mangle)]
 pub extern "C" fn rk_probe_f32_to_f64(x: f32) -> f64
     ensures { result ≡ x }
 {
-    floats::f32_to_f64(x)
+    f64::from(x)
 }
 
 #[unsafe(no_mangle)]
@@ -165,56 +165,56 @@ pub extern "C" fn rk_probe_u64_to_f32(n: u64) -> f32
 pub extern "C" fn rk_probe_bits32(x: f32) -> u32
     ensures { result ≡ to_bits binary32 x }
 {
-    floats::bits32(x)
+    floats::bits(x)
 }
 
 #[unsafe(no_mangle)]
 pub extern "C" fn rk_probe_bits64(x: f64) -> u64
     ensures { result ≡ to_bits binary64 x }
 {
-    floats::bits64(x)
+    floats::bits(x)
 }
 
 #[unsafe(no_mangle)]
 pub extern "C" fn rk_probe_of_bits32(b: u32) -> f32
     ensures { result ≡ from_bits binary32 b }
 {
-    floats::of_bits32(b)
+    floats::of_bits(b)
 }
 
 #[unsafe(no_mangle)]
 pub extern "C" fn rk_probe_of_bits64(b: u64) -> f64
     ensures { result ≡ from_bits binary64 b }
 {
-    floats::of_bits64(b)
+    floats::of_bits(b)
 }
 
 #[unsafe(no_mangle)]
 pub extern "C" fn rk_probe_rem32(x: f32, m: f32) -> f32
     ensures { result ≡ rem binary32 x m }
 {
-    floats::rem32(x, m)
+    floats::rem(x, m)
 }
 
 #[unsafe(no_mangle)]
 pub extern "C" fn rk_probe_rem64(x: f64, m: f64) -> f64
     ensures { result ≡ rem binary64 x m }
 {
-    floats::rem64(x, m)
+    floats::rem(x, m)
 }
 
 #[unsafe(no_mangle)]
 pub extern "C" fn rk_probe_rem_euclid32(x: f32, m: f32) -> f32
     ensures { result ≡ rem_euclid binary32 x m }
 {
-    floats::rem_euclid32(x, m)
+    floats::rem_euclid(x, m)
 }
 
 #[unsafe(no_mangle)]
 pub extern "C" fn rk_probe_rem_euclid64(x: f64, m: f64) -> f64
     ensures { result ≡ rem_euclid binary64 x m }
 {
-    floats::rem_euclid64(x, m)
+    floats::rem_euclid(x, m)
 }
 
 #[unsafe(no_mangle)]
@@ -513,8 +513,8 @@ pub extern "C" fn rk_probe_strength(index: u64, root_hz: f32, max_hz: f32, way: 
 fn weight_of(seed: u64, i: u64) -> f32
     ensures { result ≡ weight_from seed i }
 {
-    let word = draws::mix(std::num::wrapping_add_u64(seed, i));
-    floats::of_bits32((word % 4294967296) as u32)
+    let word = draws::mix(seed.wrapping_add(i));
+    floats::of_bits((word % 4294967296) as u32)
 }
 
 fn weights_of(seed: u64) -> [f32; 24]

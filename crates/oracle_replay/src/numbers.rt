@@ -54,7 +54,7 @@ fn direction(d: Direction) -> u64
 fn single(x: f32) -> u64
     ensures { result ≡ to_bits binary32 x }
 {
-    floats::bits32(x) as u64
+    floats::bits(x) as u64
 }
 
 fn wide(x: u8) -> u64
@@ -68,8 +68,8 @@ pub fn counts(e: Engine) -> [u64; 13]
 {
     [
         e.clock.sample,
-        floats::bits64(e.clock.phase),
-        floats::bits64(e.clock.phase_offset),
+        floats::bits(e.clock.phase),
+        floats::bits(e.clock.phase_offset),
         e.next.opportunity,
         e.next.immediate_index,
         slot(e.next.last_source),
@@ -108,7 +108,7 @@ pub fn config(c: Config) -> [u64; 13]
 pub fn prepared(p: Prepared) -> [u64; 2]
     ensures { result ≡ prepared_words p }
 {
-    [floats::bits64(p.sample_rate), floats::bits64(p.phase_alpha)]
+    [floats::bits(p.sample_rate), floats::bits(p.phase_alpha)]
 }
 
 pub fn harmonic(log: f32, default_weight: f32, weight: f32) -> [u64; 3]
@@ -120,7 +120,7 @@ pub fn harmonic(log: f32, default_weight: f32, weight: f32) -> [u64; 3]
 pub fn stream(s: SprinkleStream) -> [u64; 3]
     ensures { result ≡ stream_words s }
 {
-    [s.index, floats::bits64(s.next), flag(s.emit)]
+    [s.index, floats::bits(s.next), flag(s.emit)]
 }
 
 pub fn source(s: Source) -> [u64; 3]
@@ -138,7 +138,7 @@ pub fn particle(p: Particle) -> [u64; 14]
         flag(p.active),
         slot(p.source),
         p.birth,
-        floats::bits64(p.lifetime),
+        floats::bits(p.lifetime),
         single(p.frequency_hz),
         single(p.octave),
         single(p.width),

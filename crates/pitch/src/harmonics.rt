@@ -30,7 +30,7 @@ fn kept(i: usize, weight: f32, limit: usize, max_ratio: f32) -> f32
         return 0.0;
     }
     let harmonic = floats::u64_to_f32(i as u64 + 1);
-    floats::pick32(harmonic >= max_ratio, 0.0, weight)
+    floats::pick(harmonic >= max_ratio, 0.0, weight)
 }
 
 fn allowed(weights: [f32; MAX_PARTIALS], limit: usize, max_ratio: f32) -> [f32; MAX_PARTIALS]

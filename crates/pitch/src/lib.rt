@@ -19,5 +19,5 @@ pub use registers::{register_height, register_probability, register_strength};
 pub fn max_hz(sample_rate: f64) -> f32
     ensures { result ≡ max_hz_of sample_rate }
 {
-    floats::min32(floats::f64_to_f32(sample_rate) * 0.5, 20000.0)
+    floats::min(floats::f64_to_f32(sample_rate) * 0.5, 20000.0)
 }

@@ -32,7 +32,7 @@ fn upward(direction: Direction, index: u64) -> bool
 fn tilt(upward: bool, position: f32) -> f32
     ensures { result ≡ tilt_of upward position }
 {
-    floats::pick32(upward, 0.5 + position, 1.5 - position)
+    floats::pick(upward, 0.5 + position, 1.5 - position)
 }
 
 // One less, which wraps: 6 or 7 inside the limits, and 2^32 - 1 where there is no octave.
@@ -82,7 +82,7 @@ fn chosen(low: f32, span: f32, upward: bool, count: u32, target: f32) -> u32
 fn log_of_upper(hz: f32) -> f32
     ensures { result ≡ log2_of hz }
 {
-    if floats::bits32(hz) == 0x4582_d014 {
+    if floats::bits(hz) == 0x4582_d014 {
         return LOG_OF_MAX_HZ;
     }
     elementary::log2(hz)
@@ -92,7 +92,7 @@ fn log_of_upper(hz: f32) -> f32
 fn first(root_log: f32) -> f32
     ensures { result ≡ first_octave root_log }
 {
-    floats::ceil32(registers::LOG_OF_MIN_HZ - root_log)
+    floats::ceil(registers::LOG_OF_MIN_HZ - root_log)
 }
 
 // Which of the octaves is drawn; `low` is the logarithm of the first one's frequency.
@@ -109,8 +109,8 @@ fn octave(index: u64, root_log: f32, upper: f32, upward: bool) -> f32
     ensures { result ≡ octave_of index root_log upper upward }
 {
     let first = first(root_log);
-    let last = floats::floor32(log_of_upper(upper) - root_log);
-    let count = floats::f32_to_u32(last - first + 1.0);
+    let last = floats::floor(log_of_upper(upper) - root_log);
+    let count = floats::to_u32(last - first + 1.0);
     let chosen = drawn(index, root_log + first, upward, count);
     first + std::num::nearest_u32_to_f32(chosen)
 }
@@ -119,7 +119,7 @@ pub fn sprinkle_register(index: u64, root_hz: f32, max_hz: f32, direction: Direc
     ensures { result ≡ register_of index root_hz max_hz direction }
 {
     let upward = upward(direction, index);
-    let upper = floats::min32(SPRINKLE_MAX_HZ, max_hz);
+    let upper = floats::min(SPRINKLE_MAX_HZ, max_hz);
     let root_log = elementary::log2(root_hz);
     let octave = octave(index, root_log, upper, upward);
     Register {

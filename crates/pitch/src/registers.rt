@@ -15,7 +15,7 @@ const LOG_OF_RANGE: f32 = 4.4594316;
 pub fn register_height(log_hz: f32) -> f32
     ensures { result ≡ height_of log_hz }
 {
-    floats::clamp32((log_hz - LOG_OF_MIN_HZ) / LOG_OF_RANGE, 0.0, 1.0)
+    floats::clamp((log_hz - LOG_OF_MIN_HZ) / LOG_OF_RANGE, 0.0, 1.0)
 }
 
 pub fn register_strength(log_hz: f32) -> f32

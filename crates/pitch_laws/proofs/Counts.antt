@@ -14,7 +14,7 @@ use lib.Ieee.Scale.{finite}
 use Rattle.sequences.specs.Pick.{by-case}
 use Rattle.floats.specs.Names.{sub32}
 use Rattle.floats.specs.Whole.{floor, ceil}
-use Rattle.floats.proofs.Floor.{floor-fits}
+use Rattle.floats.proofs.Floored.{floor-fits}
 use Rattle.floats_laws.proofs.Bounds.{sub_mag}
 use Rattle.floats_laws.proofs.Ends.{not_above}
 use Rattle.floats_laws.proofs.Integral.{floor-rises}

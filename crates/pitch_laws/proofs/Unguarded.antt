@@ -17,7 +17,7 @@ use Rattle.sequences.specs.Pick.{picked, by-case}
 use Rattle.floats.proofs.Facts.{ne_self}
 use Rattle.floats.specs.Names.{f32, add32, sub32, mul32, zero32, half, one, as_float}
 use Rattle.floats.specs.Whole.{floor, ceil}
-use Rattle.floats.proofs.Floor.{floor-fits, ceil-is}
+use Rattle.floats.proofs.Floored.{floor-fits, ceil-is}
 use Rattle.floats.specs.Choose.{max, min}
 use Rattle.floats_laws.proofs.Ends.{not_above, max-first, min-first, min-second}
 use Rattle.floats_laws.proofs.Mag.{mag_finite}

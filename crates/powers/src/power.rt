@@ -63,7 +63,7 @@ fn placed_at(w: u64) -> f32
 {
     let n = w / 4294967296;
     let m = mantissa(w % 4294967296);
-    let k = std::num::wrapping_sub_u64(n, 0x4138_0001);
+    let k = n.wrapping_sub(0x4138_0001);
     if k < 254 { normal(k, m) } else { extreme(n, m) }
 }
 

@@ -1,4 +1,5 @@
 // The 64 cells of a power's fraction, as a `match`, which becomes read-only tables.
+// A type of its own beside the logarithm's cells: their numbers are others, each with its table's laws.
 ghost use Rattle.std.specs.Prelude.{◌≡◌, ◌<◌};
 ghost use Rattle.powers.specs.PowerCells.{power_start, power_slope, power_bend};
 

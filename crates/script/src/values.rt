@@ -28,7 +28,7 @@ pub fn config_of(v: &[u8]) -> Config
 pub fn is_lawful_config(v: &[u8]) -> bool
     ensures { result ≡ lawful_config v.now }
 {
-    let flags = floats::both(up_to(v, 15, 1), up_to(v, 16, 1));
-    let kinds = floats::both(up_to(v, 1, 1), up_to(v, 2, 2));
-    floats::both(up_to(v, 0, 1), floats::both(kinds, flags))
+    let flags = up_to(v, 15, 1) & up_to(v, 16, 1);
+    let kinds = up_to(v, 1, 1) & up_to(v, 2, 2);
+    up_to(v, 0, 1) & (kinds & flags)
 }

@@ -22,7 +22,7 @@ fn milliseconds(samples: u64, rate: f32) -> u64
     ensures { result ≡ milliseconds_of samples rate }
 {
     if settings::lawful_rate(rate) {
-        let parts = floats::f64_to_u64(floats::f32_to_f64(rate) * 2048.0);
+        let parts = floats::to_u64(f64::from(rate) * 2048.0);
         samples / parts * 2048000 + samples % parts * 2048000 / parts
     } else {
         0
@@ -40,6 +40,6 @@ pub fn values_of(engine: Engine, activity: f32) -> Values
         births: engine.tally.births,
         dropped: engine.tally.dropped,
         hash: engine.tally.decision_hash,
-        activity: floats::bits32(activity),
+        activity: floats::bits(activity),
     }
 }

@@ -117,7 +117,7 @@ fn listing_differs(line: &[u8; 84], script: &mut [u8], want: &mut [u8], out: &mu
 fn digest(bytes: &[u8]) -> u64 {
     bytes.iter().fold(0, |h, byte| {
         let turned = floats::rotate_left(h, 7) ^ wide(*byte);
-        std::num::wrapping_add_u64(draws::mix(turned), 0x9e3779b97f4a7c15)
+        draws::mix(turned).wrapping_add(0x9e3779b97f4a7c15)
     })
 }
 

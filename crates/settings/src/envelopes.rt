@@ -34,14 +34,14 @@ fn hop_floor(hop_samples: usize, sample_rate: f32) -> f32
 fn onset(attack_ms: f32) -> f32
     ensures { result ≡ onset_of attack_ms }
 {
-    floats::max32(attack_ms * 0.001, SPRINKLE_MIN_STAGE_SECONDS)
+    floats::max(attack_ms * 0.001, SPRINKLE_MIN_STAGE_SECONDS)
 }
 
 fn release(release_ms: f32, hop_floor: f32, onset: f32) -> f32
     ensures { result ≡ release_of release_ms hop_floor onset }
 {
-    let stage = floats::max32(release_ms * 0.001, SPRINKLE_MIN_STAGE_SECONDS);
-    floats::max32(stage, hop_floor - onset)
+    let stage = floats::max(release_ms * 0.001, SPRINKLE_MIN_STAGE_SECONDS);
+    floats::max(stage, hop_floor - onset)
 }
 
 // The milliseconds own the contour: neither Rate nor Size rescales a stage.
@@ -70,8 +70,8 @@ fn raw(size: f32, rate: f32, index: u64) -> f32
 fn cloud_lifetime(size: f32, rate: f32, index: u64, hop_floor: f32) -> f32
     ensures { result ≡ cloud_lifetime_of size rate index hop_floor }
 {
-    let minimum = floats::max32(0.06, hop_floor);
-    floats::clamp32(raw(size, rate, index), minimum, floats::max32(4.0, minimum))
+    let minimum = floats::max(0.06, hop_floor);
+    floats::clamp(raw(size, rate, index), minimum, floats::max(4.0, minimum))
 }
 
 fn cloud_attack(direction: Direction, index: u64) -> f32

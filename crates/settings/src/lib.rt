@@ -97,5 +97,5 @@ pub const MAX_RATE: f32 = 384000.0;
 pub fn lawful_rate(sample_rate: f32) -> bool
     ensures { result ≡ lawful_rate sample_rate }
 {
-    floats::is_finite32(sample_rate) && sample_rate >= MIN_RATE && sample_rate <= MAX_RATE
+    floats::is_finite(sample_rate) && sample_rate >= MIN_RATE && sample_rate <= MAX_RATE
 }

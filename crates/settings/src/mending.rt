@@ -10,21 +10,21 @@ pub const MAX_PARTIALS: usize = 24;
 pub fn finite(x: f32, fallback: f32) -> f32
     ensures { result ≡ finite_or x fallback }
 {
-    floats::pick32(floats::is_finite32(x), x, fallback)
+    floats::pick(floats::is_finite(x), x, fallback)
 }
 
 // x, or the fallback where it is not finite, held to the range.
 fn held(x: f32, fallback: f32, least: f32, most: f32) -> f32
     ensures { result ≡ held_to x fallback least most }
 {
-    floats::clamp32(finite(x, fallback), least, most)
+    floats::clamp(finite(x, fallback), least, most)
 }
 
 // In cycles, wrapped.
 fn phase(x: f32) -> f32
     ensures { result ≡ phase_of x }
 {
-    floats::rem_euclid32(finite(x, 0.0), 1.0)
+    floats::rem_euclid(finite(x, 0.0), 1.0)
 }
 
 fn partials(n: usize) -> usize

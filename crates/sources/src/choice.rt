@@ -41,7 +41,7 @@ fn choice(draw: f32, n: usize) -> usize
     requires { 0 < n }
     ensures { result ≡ choice_of draw n }
 {
-    let at = floats::f32_to_u64(draw * floats::u64_to_f32(n as u64));
+    let at = floats::to_u64(draw * floats::u64_to_f32(n as u64));
     if at > n as u64 - 1 {
         return n - 1;
     }

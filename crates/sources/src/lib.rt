@@ -42,7 +42,7 @@ pub fn same(a: Source, b: Source) -> bool
 pub fn pitched(x: f32) -> bool
     ensures { result ≡ is_pitched x }
 {
-    floats::is_finite32(x) && x > 0.0
+    floats::is_finite(x) && x > 0.0
 }
 
 pub fn eligible(s: Source) -> bool

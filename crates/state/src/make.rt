@@ -35,7 +35,7 @@ fn alpha(rate: f64) -> f64
 pub fn prepare(sample_rate: f32) -> Prepared
     ensures { result ≡ prepared_of sample_rate }
 {
-    let rate = floats::f32_to_f64(sample_rate);
+    let rate = f64::from(sample_rate);
     let partial_logs = partial_logs();
     let default_partial_weights = weights(partial_logs, 6.0);
     Prepared {

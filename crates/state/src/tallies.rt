@@ -9,7 +9,7 @@ use pool::Particle;
 pub fn drop_one(tally: Tally) -> Tally
     ensures { result ≡ dropped_one tally }
 {
-    let dropped = std::num::wrapping_add_u64(tally.dropped, 1);
+    let dropped = tally.dropped.wrapping_add(1);
     let mut out = tally;
     out.dropped = dropped;
     out
@@ -26,7 +26,7 @@ fn hash(before: u64, index: u64, sample: u64, p: Particle) -> u64
 {
     let partials = p.partials;
     let turned = floats::rotate_left(sample, 19);
-    let bits = floats::bits32(p.frequency_hz) as u64;
+    let bits = floats::bits(p.frequency_hz) as u64;
     let word = word(partials[0], partials[1], partials[2]);
     draws::mix(before ^ index ^ turned ^ bits ^ word)
 }
@@ -34,7 +34,7 @@ fn hash(before: u64, index: u64, sample: u64, p: Particle) -> u64
 pub fn bear_one(tally: Tally, index: u64, sample: u64, p: Particle) -> Tally
     ensures { result ≡ born_one tally index sample p }
 {
-    let births = std::num::wrapping_add_u64(tally.births, 1);
+    let births = tally.births.wrapping_add(1);
     let held = std::num::wrapping_add_usize(tally.held, 1);
     let decision_hash = hash(tally.decision_hash, index, sample, p);
     let mut out = tally;

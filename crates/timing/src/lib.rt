@@ -3,7 +3,7 @@
 #![tactic(auto)]
 
 ghost use Rattle.std.specs.Prelude.{◌≡◌};
-ghost use Rattle.timing.specs.Streams.{prepared_stream, new_of, larger, group_of, skipped_of, aligned_of, aligned_all, moved_of, reference_of};
+ghost use Rattle.timing.specs.Streams.{prepared_stream, new_of, group_of, skipped_of, aligned_of, aligned_all, moved_of, reference_of};
 
 mod starts;
 
@@ -55,8 +55,8 @@ pub fn new_stream(lane: usize, sync: bool) -> SprinkleStream
 fn group(reference: f64) -> u64
     ensures { result ≡ group_of reference }
 {
-    let groups = floats::floor64(reference / starts::SPRINKLE_GROUP_CYCLES);
-    floats::wrapping_mul(2, floats::f64_to_u64(floats::max64(groups, 0.0)))
+    let groups = floats::floor(reference / starts::SPRINKLE_GROUP_CYCLES);
+    floats::wrapping_mul(2, floats::to_u64(floats::max(groups, 0.0)))
 }
 
 // A start that has passed is left out.
@@ -64,7 +64,7 @@ fn skip(stream: SprinkleStream, lane: usize, reference: f64, sync: bool) -> Spri
     ensures { result ≡ skipped_of stream lane reference sync }
 {
     if stream.next <= reference {
-        return at(std::num::wrapping_add_u64(stream.index, 1), lane, sync);
+        return at(stream.index.wrapping_add(1), lane, sync);
     }
     stream
 }
@@ -81,28 +81,20 @@ fn align(lane: usize, reference: f64, sync: bool) -> SprinkleStream
 pub fn align_streams(reference: f64, sync: bool) -> [SprinkleStream; SPRINKLE_STREAMS]
     ensures { result ≡ aligned_all reference sync }
 {
-    let first = align(0, reference, sync);
-    let second = align(1, reference, sync);
-    let third = align(2, reference, sync);
-    [first, second, third]
-}
-
-fn larger(a: u64, b: u64) -> u64
-    ensures { result ≡ larger a b }
-{
-    if a < b {
-        return b;
-    }
-    a
+    // Written out: the proof of `[0, 1, 2].map(|lane| ..)` was tried and did not close.
+    [
+        align(0, reference, sync),
+        align(1, reference, sync),
+        align(2, reference, sync),
+    ]
 }
 
 // Past a start: to the next, or to the group under way where that is later. No backlog is kept.
 pub fn move_on(stream: SprinkleStream, lane: usize, reference: f64, sync: bool) -> SprinkleStream
     ensures { result ≡ moved_of stream.index lane reference sync }
 {
-    let after = std::num::wrapping_add_u64(stream.index, 1);
-    let index = larger(after, group(reference));
-    at(index, lane, sync)
+    let after = stream.index.wrapping_add(1);
+    at(after.max(group(reference)), lane, sync)
 }
 
 // The Cloud's opportunity falls at the middle of its cycle, 0.35 of a cycle to either side.
@@ -111,5 +103,5 @@ pub fn timing_reference(opportunity: u64) -> f64
 {
     let draw = draws::random(opportunity, draws::TIMING);
     let middle = std::num::nearest_u64_to_f64(opportunity) + 0.5;
-    middle + CLOUD_TIMING_SPREAD * (floats::f32_to_f64(draw) - 0.5)
+    middle + CLOUD_TIMING_SPREAD * (f64::from(draw) - 0.5)
 }

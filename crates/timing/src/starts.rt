@@ -10,29 +10,29 @@ fn count(draw: f32) -> u64
     ensures { result ≡ starts_drawn draw }
 {
     if draw < 0.25 {
-        return 0;
+        0
+    } else if draw < 0.75 {
+        1
+    } else {
+        2
     }
-    if draw < 0.75 {
-        return 1;
-    }
-    2
 }
 
 // The first start lies on a grid of quarters of a cycle.
 fn start(key: u64) -> f64
     ensures { result ≡ start_of key }
 {
-    let step = floats::floor32(draws::random(key, draws::TIMING) * 9.0);
-    0.25 + floats::f32_to_f64(step) * 0.25
+    let step = floats::floor(draws::random(key, draws::TIMING) * 9.0);
+    0.25 + f64::from(step) * 0.25
 }
 
 // The second comes with the first, or a quarter or half a cycle later.
 fn gap(key: u64) -> f64
     ensures { result ≡ gap_of key }
 {
-    let second = std::num::wrapping_add_u64(key, 1);
-    let step = floats::floor32(draws::random(second, draws::TIMING) * 3.0);
-    floats::f32_to_f64(step) * 0.25
+    let second = key.wrapping_add(1);
+    let step = floats::floor(draws::random(second, draws::TIMING) * 3.0);
+    f64::from(step) * 0.25
 }
 
 // A small offset of the whole group, unless it keeps to the grid.
@@ -40,8 +40,8 @@ fn human(sync: bool, key: u64) -> f64
     ensures { result ≡ human_of sync key }
 {
     let draw = draws::random(key, draws::FREE_TIMING);
-    let offset = 0.18 * (floats::f32_to_f64(draw) - 0.5);
-    floats::pick64(sync, 0.0, offset)
+    let offset = 0.18 * (f64::from(draw) - 0.5);
+    floats::pick(sync, 0.0, offset)
 }
 
 // When the start falls, in cycles.

@@ -5,22 +5,15 @@
 ghost use Rattle.std.specs.Prelude.{true, ◌↔◌, ◌≡◌, ◌+◌, ◌≤◌, ◌<◌};
 ghost use Rattle.vectors.specs.Line.{digit_of, number_at};
 
+// As `char::to_digit` has it, but for the capitals.
 pub fn digit(b: u8) -> u64
     ensures { (result ≡ digit_of b) × (result < 16) }
 {
-    if b < 48 {
-        return 0;
+    match b {
+        b'0'..=b'9' => (b - b'0') as u64,
+        b'a'..=b'f' => (b - b'a') as u64 + 10,
+        _ => 0,
     }
-    if b < 58 {
-        return (b - 48) as u64;
-    }
-    if b < 97 {
-        return 0;
-    }
-    if b < 103 {
-        return (b - 87) as u64;
-    }
-    0
 }
 
 fn number(line: &[u8; 84], at: usize, n: usize) -> u64
@@ -29,10 +22,8 @@ fn number(line: &[u8; 84], at: usize, n: usize) -> u64
     ensures { result ≡ number_at line.now at n }
 {
     let mut w: u64 = 0;
-    let mut i: usize = 0;
-    while i < n {
-        w = w * 16 + digit(line[at + i]);
-        i = i + 1;
+    for b in &line[at..at + n] {
+        w = w * 16 + digit(*b);
     }
     w
 }
@@ -72,8 +63,7 @@ pub fn answer(line: &[u8; 84]) -> u64
 pub fn next(line: &mut [u8; 84]) -> usize
     ensures { result ≤ 84 }
 {
-    let n = io::read_full(0, line);
-    if n < 84 { n } else { 84 }
+    io::read_full(0, line).min(84)
 }
 
 // Writes what came of the cases.
@@ -84,19 +74,32 @@ pub fn say(cases: u64, wrong: u64) {
     io::write_all(1, b" differ\n");
 }
 
+// A kind of cases: whether the answer of a line is another than the one that comes now. No `impl Fn`,
+// whose calls would be a `requires` of `run`.
+pub trait Cases {
+    fn differs(line: &[u8; 84]) -> bool;
+}
+
+// Runs at most a million cases from standard input, and says how many differ.
+pub fn run<C: Cases>() {
+    let mut line = [0u8; 84];
+    let mut cases: u64 = 0;
+    let mut wrong: u64 = 0;
+    while cases < 1000000 {
+        if next(&mut line) < 84 {
+            break;
+        }
+        cases += 1;
+        if C::differs(&line) {
+            wrong += 1;
+        }
+    }
+    say(cases, wrong);
+}
+
 // Whether two texts are one, byte for byte.
 pub fn same(a: &[u8], b: &[u8]) -> bool
     ensures { (result ≡ true) ↔ (a.now ≡ b.now) }
 {
-    if a.len() != b.len() {
-        return false;
-    }
-    let mut i: usize = 0;
-    while i < a.len() {
-        if a[i] != b[i] {
-            return false;
-        }
-        i = i + 1;
-    }
-    true
+    a == b
 }

@@ -11,7 +11,7 @@ fn opened(windows: [Window; 192], log2_hz: f32) -> f32
 {
     windows
         .iter()
-        .fold(0.0, |o, w| floats::max32(o, crate::openness(*w, log2_hz)))
+        .fold(0.0, |o, w| floats::max(o, crate::openness(*w, log2_hz)))
 }
 
 pub fn attenuation_db(frame: Frame, frequency_hz: f32, depth_db: f32) -> f32
@@ -20,11 +20,11 @@ pub fn attenuation_db(frame: Frame, frequency_hz: f32, depth_db: f32) -> f32
     if depth_db <= 0.0 {
         return 0.0;
     }
-    let log = elementary::log2(floats::max32(
+    let log = elementary::log2(floats::max(
         frequency_hz,
         0.000000000000000000000000000000000000011754944,
     ));
     let windows = frame.windows;
     let openness = opened(windows, log);
-    floats::clamp32(depth_db, 0.0, 60.0) * frame.activity * (1.0 - openness)
+    floats::clamp(depth_db, 0.0, 60.0) * frame.activity * (1.0 - openness)
 }

@@ -55,7 +55,7 @@ fn bent(x: f32) -> f32
 pub fn taper(x: f32) -> f32
     ensures { result ≡ taper_of x }
 {
-    bent(floats::clamp32(x, 0.0, 1.0))
+    bent(floats::clamp(x, 0.0, 1.0))
 }
 
 // What is taken from 1 is never negative, so of the Rust's two clamps one test is left.
@@ -65,6 +65,6 @@ pub fn openness(w: Window, log2_hz: f32) -> f32
     if w.radius_octaves <= 0.0 {
         return 0.0;
     }
-    let x = 1.0 - floats::abs32(log2_hz - w.center_log2_hz) / w.radius_octaves;
-    w.amplitude * bent(floats::pick32(x < 0.0, 0.0, x))
+    let x = 1.0 - floats::abs(log2_hz - w.center_log2_hz) / w.radius_octaves;
+    w.amplitude * bent(floats::pick(x < 0.0, 0.0, x))
 }

@@ -4,4 +4,4 @@ use Rattle.big_endian.specs.Bytes.{bytes64}
 use Rattle.big_endian.proofs.double.Goals as goal
 
 pub returns : goal.returns
-returns c = c.bytes64.ensures ∙ ap bytes64 c.bits64.ensures
+returns c = c.bytes64.ensures ∙ ap bytes64 c.bits.ensures

@@ -6,7 +6,7 @@ use Rattle.engine_changes.proofs.offset.Goals as goal
 
 pub returns-then-engine-eq0 : goal.returns-then-engine-eq0
 unfolding offset
-returns-then-engine-eq0 c = took _ _ _ _ (eq-eqb _ _ c.if-engine-eq0.true) (rw c.f32_to_f64-to.ensures)
+returns-then-engine-eq0 c = took _ _ _ _ (eq-eqb _ _ c.if-engine-eq0.true) (rw c.from-to.ensures)
 
 pub returns : goal.returns
 unfolding offset

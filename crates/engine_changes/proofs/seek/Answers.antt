@@ -4,4 +4,4 @@ use Rattle.engine_changes.proofs.seek.Goals as goal
 
 pub returns : goal.returns
 unfolding sought_of
-returns c = rw (c.align_streams.ensures, c.sought_opportunity.ensures, c.f32_to_f64-phase_offset.ensures, c.sought_phase-phase.ensures, c.retire_all-retired.ensures)
+returns c = rw (c.align_streams.ensures, c.sought_opportunity.ensures, c.from-phase_offset.ensures, c.sought_phase-phase.ensures, c.retire_all-retired.ensures)

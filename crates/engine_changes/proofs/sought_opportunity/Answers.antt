@@ -7,8 +7,8 @@ use Rattle.engine_changes.proofs.sought_opportunity.Goals as goal
 
 pub returns-then-timing_reference-reference : goal.returns-then-timing_reference-reference
 unfolding sought_opportunity
-returns-then-timing_reference-reference c = rw (← c.floor64.ensures, ← c.f64_to_u64-opportunity.ensures) (took _ _ _ _ (sym (ap (λ (t : Float). le t c.args.reference) c.timing_reference.ensures) ∙ c.if-timing_reference-reference.true) c.wrapping_add_u64.ensures.value)
+returns-then-timing_reference-reference c = rw (← c.floor.ensures, ← c.to_u64-opportunity.ensures) (took _ _ _ _ (sym (ap (λ (t : Float). le t c.args.reference) c.timing_reference.ensures) ∙ c.if-timing_reference-reference.true) refl)
 
 pub returns : goal.returns
 unfolding sought_opportunity
-returns c = rw (← c.floor64.ensures, ← c.f64_to_u64-opportunity.ensures) (skipped _ _ _ _ (sym (ap (λ (t : Float). le t c.args.reference) c.timing_reference.ensures) ∙ c.if-timing_reference-reference.false) refl)
+returns c = rw (← c.floor.ensures, ← c.to_u64-opportunity.ensures) (skipped _ _ _ _ (sym (ap (λ (t : Float). le t c.args.reference) c.timing_reference.ensures) ∙ c.if-timing_reference-reference.false) refl)

@@ -6,4 +6,4 @@ use Rattle.engine_triggers.proofs.trigger.Goals as goal
 
 pub returns : goal.returns
 unfolding triggered_of reserved_of
-returns c = c.fire.ensures ∙ ap (λ (x : ℕ). triggered_by (with_indexed c.args.engine x) c.args.slot c.args.engine.next.immediate_index) c.wrapping_add_u64-next.ensures.value
+returns c = c.fire.ensures

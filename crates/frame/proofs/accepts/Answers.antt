@@ -2,10 +2,10 @@
 use Rattle.frame.specs.Frame.{accepted}
 use Rattle.frame.proofs.accepts.Goals as goal
 
-pub returns-then-is_finite32 : goal.returns-then-is_finite32
+pub returns-then-is_finite : goal.returns-then-is_finite
 unfolding accepted
-returns-then-is_finite32 c = rw (← c.is_finite32.ensures, c.if-is_finite32.true)
+returns-then-is_finite c = rw (← c.is_finite.ensures, c.if-is_finite.true)
 
-pub returns-else-is_finite32 : goal.returns-else-is_finite32
+pub returns-else-is_finite : goal.returns-else-is_finite
 unfolding accepted
-returns-else-is_finite32 c = rw (← c.is_finite32.ensures, c.if-is_finite32.false)
+returns-else-is_finite c = rw (← c.is_finite.ensures, c.if-is_finite.false)

@@ -2,4 +2,4 @@
 use Rattle.oracle_probe.proofs.rk_probe_ceil32.Goals as goal
 
 pub returns : goal.returns
-returns c = c.ceil32.ensures
+returns c = c.ceil.ensures

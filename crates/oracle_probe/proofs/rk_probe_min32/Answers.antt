@@ -2,4 +2,4 @@
 use Rattle.oracle_probe.proofs.rk_probe_min32.Goals as goal
 
 pub returns : goal.returns
-returns c = c.min32.ensures
+returns c = c.min.ensures

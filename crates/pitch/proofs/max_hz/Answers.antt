@@ -4,4 +4,4 @@ use Rattle.pitch.proofs.max_hz.Goals as goal
 
 pub returns : goal.returns
 unfolding max_hz_of
-returns c = rw (c.min32.ensures, c.f64_to_f32.ensures)
+returns c = rw (c.min.ensures, c.f64_to_f32.ensures)

@@ -4,10 +4,10 @@ use Rattle.sequences.specs.Pick.{took, skipped}
 use Rattle.sources.specs.Sources.{is_pitched}
 use Rattle.sources.proofs.pitched.Goals as goal
 
-pub returns-then-is_finite32 : goal.returns-then-is_finite32
+pub returns-then-is_finite : goal.returns-then-is_finite
 unfolding is_pitched
-returns-then-is_finite32 c = took _ _ _ _ (sym c.is_finite32.ensures ∙ c.if-is_finite32.true) refl
+returns-then-is_finite c = took _ _ _ _ (sym c.is_finite.ensures ∙ c.if-is_finite.true) refl
 
-pub returns-else-is_finite32 : goal.returns-else-is_finite32
+pub returns-else-is_finite : goal.returns-else-is_finite
 unfolding is_pitched
-returns-else-is_finite32 c = skipped _ _ _ _ (sym c.is_finite32.ensures ∙ c.if-is_finite32.false) c.if-is_finite32.false
+returns-else-is_finite c = skipped _ _ _ _ (sym c.is_finite.ensures ∙ c.if-is_finite.false) c.if-is_finite.false

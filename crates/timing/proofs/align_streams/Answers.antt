@@ -4,4 +4,4 @@ use Rattle.timing.proofs.align_streams.Goals as goal
 
 pub returns : goal.returns
 unfolding aligned_all
-returns c = rw (c.align-third.ensures, c.align-second.ensures, c.align-first.ensures)
+returns c = rw (c.align-3.ensures, c.align-2.ensures, c.align.ensures)

@@ -4,4 +4,4 @@ use Rattle.timing.proofs.group.Goals as goal
 
 pub returns : goal.returns
 unfolding group_of
-returns c = rw (c.wrapping_mul.ensures, c.f64_to_u64.ensures, c.max64.ensures, c.floor64-groups.ensures)
+returns c = rw (c.wrapping_mul.ensures, c.to_u64.ensures, c.max.ensures, c.floor-groups.ensures)

@@ -5,7 +5,7 @@ use Rattle.timing.proofs.skip.Goals as goal
 
 pub returns-then-stream-reference : goal.returns-then-stream-reference
 unfolding skipped_of
-returns-then-stream-reference c = rw (c.at.ensures, c.wrapping_add_u64.ensures.value) (picked _ _ _ c.if-stream-reference.true)
+returns-then-stream-reference c = rw c.at.ensures (picked _ _ _ c.if-stream-reference.true)
 
 pub returns : goal.returns
 unfolding skipped_of

@@ -4,4 +4,4 @@ use Rattle.timing.proofs.timing_reference.Goals as goal
 
 pub returns : goal.returns
 unfolding reference_of
-returns c = rw (c.f32_to_f64.ensures, c.nearest_u64_to_f64-middle.ensures, c.random-draw.ensures)
+returns c = rw (c.from.ensures, c.nearest_u64_to_f64-middle.ensures, c.random-draw.ensures)

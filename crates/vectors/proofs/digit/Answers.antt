@@ -1,26 +1,26 @@
--- `digit` meets its contract: its tests are the definition's, in order.
+-- `digit` meets its contract: its ranges are the definition's tests, in order.
 use native.Mathlib.Omega.{arith}
 use Rattle.sequences.specs.Pick.{cases}
 use Rattle.vectors.specs.Line.{digit_of}
 use borrow.Author.Rules.{rules}
 use Rattle.vectors.proofs.digit.Goals as goal
 
-pub returns-then-b-lt48 : goal.returns-then-b-lt48
+pub returns-in-48-to-57 : goal.returns-in-48-to-57
 unfolding digit_of
-returns-then-b-lt48 c = (search (rules, cases), omega arith)
+returns-in-48-to-57 c = (search (rules, cases), omega arith)
 
-pub returns-then-b-lt58 : goal.returns-then-b-lt58
+pub returns-in-97-to-102 : goal.returns-in-97-to-102
 unfolding digit_of
-returns-then-b-lt58 c = (search (rules, cases), omega arith)
+returns-in-97-to-102 c = (search (rules, cases), omega arith)
 
-pub returns-then-b-lt97 : goal.returns-then-b-lt97
+pub returns-in_default : goal.returns-in_default
 unfolding digit_of
-returns-then-b-lt97 c = (search (rules, cases), omega arith)
+returns-in_default c = (search (rules, cases), omega arith)
 
-pub returns-then-b-lt103 : goal.returns-then-b-lt103
+pub returns-in_default-2 : goal.returns-in_default-2
 unfolding digit_of
-returns-then-b-lt103 c = (search (rules, cases), omega arith)
+returns-in_default-2 c = (search (rules, cases), omega arith)
 
-pub returns : goal.returns
+pub returns-in_default-3 : goal.returns-in_default-3
 unfolding digit_of
-returns c = (search (rules, cases), omega arith)
+returns-in_default-3 c = (search (rules, cases), omega arith)

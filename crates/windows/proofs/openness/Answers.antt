@@ -11,4 +11,4 @@ pub returns : goal.returns
 unfolding openness_of inside_of
 returns c =
     let s = c.args in
-    rw (c.if-w.false, c.bent.ensures, c.pick32.ensures, c.abs32.ensures, ← lean s.w s.log2_hz c.if-w.false)
+    rw (c.if-w.false, c.bent.ensures, c.pick.ensures, c.abs.ensures, ← lean s.w s.log2_hz c.if-w.false)

@@ -4,4 +4,4 @@ use Rattle.windows.proofs.taper.Goals as goal
 
 pub returns : goal.returns
 unfolding taper_of
-returns c = rw (c.bent.ensures, c.clamp32.ensures)
+returns c = rw (c.bent.ensures, c.clamp.ensures)

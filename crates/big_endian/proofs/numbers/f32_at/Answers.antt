@@ -2,4 +2,4 @@
 use Rattle.big_endian.proofs.numbers.f32_at.Goals as goal
 
 pub returns : goal.returns
-returns c = rw (c.of_bits32.ensures, c.be32_at.ensures)
+returns c = rw (c.of_bits.ensures, c.be32_at.ensures)

@@ -2,4 +2,4 @@
 use Rattle.big_endian.proofs.numbers.f64_at.Goals as goal
 
 pub returns : goal.returns
-returns c = rw (c.of_bits64.ensures, c.be64_at.ensures)
+returns c = rw (c.of_bits.ensures, c.be64_at.ensures)

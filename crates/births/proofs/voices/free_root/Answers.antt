@@ -4,4 +4,4 @@ use Rattle.births.proofs.voices.free_root.Goals as goal
 
 pub returns : goal.returns
 unfolding free_root_of
-returns c = rw (c.pow8.ensures, c.random.ensures, c.f64_to_u64-phrase.ensures, c.floor64.ensures)
+returns c = rw (c.pow8.ensures, c.random.ensures, c.to_u64-phrase.ensures, c.floor.ensures)

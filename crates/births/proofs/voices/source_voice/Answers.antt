@@ -4,4 +4,4 @@ use Rattle.births.proofs.voices.source_voice.Goals as goal
 
 pub returns : goal.returns
 unfolding source_voice_of
-returns c = rw c.clamp32.ensures
+returns c = rw c.clamp.ensures

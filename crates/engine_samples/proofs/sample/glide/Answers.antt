@@ -4,4 +4,4 @@ use Rattle.engine_samples.proofs.sample.glide.Goals as goal
 
 pub returns : goal.returns
 unfolding glided_of
-returns c = rw (c.within_a_cycle-difference.ensures, c.f32_to_f64.ensures)
+returns c = rw (c.within_a_cycle-difference.ensures, c.from.ensures)

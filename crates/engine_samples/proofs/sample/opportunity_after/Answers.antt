@@ -7,8 +7,8 @@ use Rattle.engine_samples.proofs.sample.opportunity_after.Goals as goal
 
 pub returns-then-after-whole : goal.returns-then-after-whole
 unfolding opportunity_after larger
-returns-then-after-whole c = rw (← c.wrapping_add_u64-after.ensures.value, ← c.floor64.ensures, ← c.max64.ensures, ← c.f64_to_u64-whole.ensures) (took _ _ _ _ (lt-ltb _ _ c.if-after-whole.true) refl)
+returns-then-after-whole c = rw (← c.floor.ensures, ← c.max.ensures, ← c.to_u64-whole.ensures) (took _ _ _ _ (lt-ltb _ _ c.if-after-whole.true) refl)
 
 pub returns : goal.returns
 unfolding opportunity_after larger
-returns c = rw (← c.wrapping_add_u64-after.ensures.value, ← c.floor64.ensures, ← c.max64.ensures, ← c.f64_to_u64-whole.ensures) (skipped _ _ _ _ (le-ltb _ _ c.if-after-whole.false) refl)
+returns c = rw (← c.floor.ensures, ← c.max.ensures, ← c.to_u64-whole.ensures) (skipped _ _ _ _ (le-ltb _ _ c.if-after-whole.false) refl)

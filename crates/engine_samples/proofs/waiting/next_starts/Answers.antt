@@ -13,4 +13,4 @@ returns-in-Cloud c = took _ _ _ _ c.if-config.true (rw (c.starts_at-in-Cloud.ens
 
 pub returns : goal.returns
 unfolding starts_of
-returns c = skipped _ _ _ _ c.if-config.false (rw (c.starts_at-2.ensures, c.of_bits64-never.ensures))
+returns c = skipped _ _ _ _ c.if-config.false (rw (c.starts_at-2.ensures, c.of_bits-never.ensures))

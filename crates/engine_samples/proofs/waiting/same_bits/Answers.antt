@@ -2,4 +2,4 @@
 use Rattle.engine_samples.proofs.waiting.same_bits.Goals as goal
 
 pub returns : goal.returns
-returns c = rw (c.bits64-2.ensures, c.bits64.ensures)
+returns c = rw (c.bits-2.ensures, c.bits.ensures)

@@ -2,4 +2,4 @@
 use Rattle.engine_samples.proofs.waiting.tempo_of.Goals as goal
 
 pub returns : goal.returns
-returns c = rw c.f32_to_f64.ensures
+returns c = rw c.from.ensures

@@ -1,4 +1,5 @@
 -- `wait` meets its contract: a sample by `glide` and those after it by `wait_gliding`, over and over, and the rest by `wait_at_rest`.
+use mathlib.Core.Path.{refl}
 use Rattle.std.proofs.Common.{sym, ◌∙◌, arith, rules}
 use lib.Ieee.{binary64}
 use denote.Floats.{passes}
@@ -31,7 +32,7 @@ loop-count-smaller c = let few = c.wait_gliding-more.ensures.few in omega arith
 pub loop-count-preserved : goal.loop-count-preserved
 loop-count-preserved c =
     let glided = c.glide-later in
-    let one = underway_more _ _ _ _ _ _ _ c.loop-count.invariant.1 c.loop-count-test.true (sym c.nothing_due.ensures ∙ c.if-nothing_due.true) (clock-after _ _ _ _ _ _ _ c.wrapping_add_u64.ensures.value c.pick64.ensures glided.ensures) in
+    let one = underway_more _ _ _ _ _ _ _ c.loop-count.invariant.1 c.loop-count-test.true (sym c.nothing_due.ensures ∙ c.if-nothing_due.true) (clock-after _ _ _ _ _ _ _ refl c.pick.ensures glided.ensures) in
     (passes _ c.wait_gliding-more.type_inv.1.1.0.1.1.1.1.0.1, underway_join _ _ _ _ _ _ _ _ one c.wait_gliding-more.ensures)
 
 pub returns-after-loop-count : goal.returns-after-loop-count

@@ -1,4 +1,5 @@
 -- `wait_at_rest` meets its contract: the offset stays, the phase moves on.
+use mathlib.Core.Path.{refl}
 use Rattle.engine_samples.proofs.Waits.{underway_none, underway_more, underway_all, underway_due, clock-after}
 use Rattle.std.proofs.Common.{sym, ◌∙◌, rules}
 use Rattle.engine_samples.proofs.waiting.wait_at_rest.Goals as goal
@@ -11,7 +12,7 @@ loop-count-preserved c =
     let inv = c.loop-count.invariant in (
       inv.0,
       underway_more _ _ _ _ _ _ _ inv.1 c.loop-count-test.true (sym c.nothing_due.ensures ∙ c.if-nothing_due.true)
-          (clock-after _ _ _ _ _ _ _ c.wrapping_add_u64-sample.ensures.value c.pick64-phase.ensures (sym inv.0)),
+          (clock-after _ _ _ _ _ _ _ refl c.pick-phase.ensures (sym inv.0)),
     )
 
 pub returns-after-loop-count : goal.returns-after-loop-count

@@ -1,4 +1,5 @@
 -- `wait_gliding` meets its contract: a sample goes on with an offset that has the bits of `glide`, so it is `glide`'s.
+use mathlib.Core.Path.{refl}
 use lib.Ieee.{binary64}
 use lib.Ieee.Fits.{add-fits}
 use denote.Floats.{passes}
@@ -15,7 +16,7 @@ loop-count-preserved c =
     let glided = c.glide-later in
     let quick = same_bits binary64 _ _ (add-fits binary64 _ _) (passes _ glided.type_inv) (sym c.same_bits.ensures ∙ c.if-same_bits.true) ∙ glided.ensures in
     underway_more _ _ _ _ _ _ _ c.loop-count.invariant c.loop-count-test.true (sym c.nothing_due.ensures ∙ c.if-nothing_due.true)
-    (clock-after _ _ _ _ _ _ _ c.wrapping_add_u64-sample.ensures.value c.pick64-phase.ensures quick)
+    (clock-after _ _ _ _ _ _ _ refl c.pick-phase.ensures quick)
 
 pub returns-after-loop-count : goal.returns-after-loop-count
 returns-after-loop-count c = c.loop-count.invariant

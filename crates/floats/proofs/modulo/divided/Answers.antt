@@ -11,17 +11,17 @@ left_over r a n e p h = omega (arith, e, mod-lt a p)
 pub returns-then-a-ge9218868437227405312 : goal.returns-then-a-ge9218868437227405312
 unfolding div of_bits
 returns-then-a-ge9218868437227405312 c =
-    not_finite c.args.x c.args.m (passes _ c.well_formed.0.1) (passes _ c.well_formed.1.0.1) (omega (arith, c.bits64-p.ensures, c.if-a-ge9218868437227405312.true))
+    not_finite c.args.x c.args.m (passes _ c.well_formed.0.1) (passes _ c.well_formed.1.0.1) (omega (arith, c.f64_to_bits_with_nan-p.ensures, c.if-a-ge9218868437227405312.true))
 
 pub returns-then-b-gt9218868437227405312 : goal.returns-then-b-gt9218868437227405312
 unfolding div of_bits
 returns-then-b-gt9218868437227405312 c =
-    by_nan c.args.x c.args.m (passes _ c.well_formed.0.1) (passes _ c.well_formed.1.0.1) (omega (arith, c.bits64-b.ensures, c.if-b-gt9218868437227405312.true))
+    by_nan c.args.x c.args.m (passes _ c.well_formed.0.1) (passes _ c.well_formed.1.0.1) (omega (arith, c.f64_to_bits_with_nan-b.ensures, c.if-b-gt9218868437227405312.true))
 
 pub returns-then-i-j : goal.returns-then-i-j
 returns-then-i-j c =
-    let ex = c.bits64-p.ensures in
-    let em = c.bits64-b.ensures in
+    let ex = c.f64_to_bits_with_nan-p.ensures in
+    let em = c.f64_to_bits_with_nan-b.ensures in
     let ei = c.shift-i.ensures in
     let ej = c.shift-j.ensures in
     short c.args.x c.args.m (passes _ c.well_formed.0.1) (passes _ c.well_formed.1.0.1) (omega (arith, ex, c.if-a-ge9218868437227405312.false)) (omega (arith, em, c.if-b-gt9218868437227405312.false))
@@ -30,14 +30,14 @@ returns-then-i-j c =
 pub returns-then-b-eq0 : goal.returns-then-b-eq0
 unfolding div of_bits
 returns-then-b-eq0 c =
-    by_zero c.args.x c.args.m (passes _ c.well_formed.0.1) (passes _ c.well_formed.1.0.1) (omega (arith, c.bits64-b.ensures, c.if-b-eq0.true))
+    by_zero c.args.x c.args.m (passes _ c.well_formed.0.1) (passes _ c.well_formed.1.0.1) (omega (arith, c.f64_to_bits_with_nan-b.ensures, c.if-b-eq0.true))
 
 pub assembled-v-requires : goal.assembled-v-requires
 assembled-v-requires c = record { in_53_digits = left_over _ _ _ c.scaled_rem-r.ensures (omega arith) (omega arith); exponent_fits = omega arith }
 
 pub returns : goal.returns
 returns c =
-    c.pick64.ensures
-    ∙ long-is c.args.x c.args.m (passes _ c.well_formed.0.1) (passes _ c.well_formed.1.0.1) c.bits64-p.result c.bits64-b.result _ _ _ _ c.bits64-p.ensures c.bits64-b.ensures
+    c.pick.ensures
+    ∙ long-is c.args.x c.args.m (passes _ c.well_formed.0.1) (passes _ c.well_formed.1.0.1) c.f64_to_bits_with_nan-p.result c.f64_to_bits_with_nan-b.result _ _ _ _ c.f64_to_bits_with_nan-p.ensures c.f64_to_bits_with_nan-b.ensures
     c.shift-i.ensures c.shift-j.ensures c.if-a-ge9218868437227405312.false (omega (arith, c.if-b-eq0.false))
     c.if-b-gt9218868437227405312.false c.if-i-j.false c.scaled_rem-r.ensures c.assembled-v.ensures

@@ -4,4 +4,4 @@ use Rattle.frame.proofs.partials.radius.Goals as goal
 
 pub returns : goal.returns
 unfolding radius_of
-returns c = rw (c.max32-3.ensures, c.log2.ensures, c.max32-2.ensures, c.max32.ensures)
+returns c = rw (c.max-3.ensures, c.log2.ensures, c.max-2.ensures, c.max.ensures)

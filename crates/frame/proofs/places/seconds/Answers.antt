@@ -1,8 +1,7 @@
 -- `seconds` meets its contract: the difference that wraps is the definition's, and a small one is a
 -- float as it stands.
-use Rattle.std.proofs.Common.{ℕ, ◌<◌, T, pos, arith, le→leb, rules}
+use Rattle.std.proofs.Common.{ℕ, ◌<◌, T, pos, refl, arith, le→leb}
 use lib.Ieee.{binary64, in_float}
-use Rattle.floats.proofs.Words.{difference-is}
 use Rattle.frame.specs.Freed.{seconds_of}
 use Rattle.frame.proofs.places.seconds.Goals as goal
 
@@ -15,8 +14,8 @@ int_to_float-result c = exact _ c.if-elapsed-lt4294967296.true
 
 pub returns-then-elapsed-lt4294967296 : goal.returns-then-elapsed-lt4294967296
 unfolding seconds_of
-returns-then-elapsed-lt4294967296 c = rw (difference-is _ _ _ (search rules) (search rules) c.wrapping_sub_u64-elapsed.ensures.value)
+returns-then-elapsed-lt4294967296 c = refl
 
 pub returns : goal.returns
 unfolding seconds_of
-returns c = rw (c.nearest_u64_to_f64.ensures, difference-is _ _ _ (search rules) (search rules) c.wrapping_sub_u64-elapsed.ensures.value)
+returns c = rw c.nearest_u64_to_f64.ensures

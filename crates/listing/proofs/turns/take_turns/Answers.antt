@@ -87,7 +87,7 @@ loop-field-preserved c =
     let l = c.loop-field in
     let run : Run = record { engine = l.engine; frame = l.frame } in
     let eq = turned (goal.at.loop-field-preserved c).After-replied-said (stepped (goal.at.loop-field-preserved c).Joined-field) in
-    subst (λ (m : ℕ). Going a.until a.script.now a.run a.n a.at (record { engine = c.match-field.engine; frame = c.match-field.frame }) m (l.at + c.replied-said.result.taken)) (sym c.wrapping_add_u64-n.ensures.value) (going_on a.until a.script.now a.run a.n a.at run l.n l.at l.invariant _ eq (sym c.goes_on.ensures ∙ c.if-goes_on.true))
+    subst (λ (m : ℕ). Going a.until a.script.now a.run a.n a.at (record { engine = c.match-field.engine; frame = c.match-field.frame }) m (l.at + c.replied-said.result.taken)) refl (going_on a.until a.script.now a.run a.n a.at run l.n l.at l.invariant _ eq (sym c.goes_on.ensures ∙ c.if-goes_on.true))
 
 pub returns-else-goes_on : goal.returns-else-goes_on
 returns-else-goes_on c =

@@ -1,5 +1,6 @@
 -- `behind` meets its contract: two sums.
+use mathlib.Core.Path.{refl}
 use Rattle.mask_files.proofs.frames.behind.Goals as goal
 
 pub returns : goal.returns
-returns c = rw c.wrapping_add_u64-n.ensures.value
+returns c = refl

@@ -22,7 +22,7 @@ loop-i-preserved c =
     let t = c.loop-i-test.true in
     let h : l.i < length c.args.scratch.now = omega (arith, c.requires, t) in
     let u = subst (λ (x : Float). T (not (is_nan x))) (sym (l.invariant.0.over l.i (omega arith))) (c.requires.3 l.i h) in
-    (part-more _ _ _ _ l.i l.scratch _ l.invariant.0 h (c.pick32.ensures ∙ one_test (get_or l.scratch l.i nan) _ u ∙ ap (max (get_or l.scratch l.i nan)) c.openness-v.ensures), omega (arith, t))
+    (part-more _ _ _ _ l.i l.scratch _ l.invariant.0 h (c.pick.ensures ∙ one_test (get_or l.scratch l.i nan) _ u ∙ ap (max (get_or l.scratch l.i nan)) c.openness-v.ensures), omega (arith, t))
 
 pub returns : goal.returns
 returns c =

@@ -16,7 +16,7 @@ loop-preserved c =
     let inv = c.loop.invariant in
     let fires = iterate-more fired _ _ _ _ inv.0 (ap (λ (t : Triggered). t.engine) c.trigger-triggered.ensures) in
     elim c.if-asked.branch [
-      | then-asked w ↦ (fires, with_answer _ _ _ inv.1 _ _ _ w.if-asked.true fires w.active_count.ensures (w.sum-is ∙ w.wrapping_add_u64-sum.ensures.value), search rules)
+      | then-asked w ↦ (fires, with_answer _ _ _ inv.1 _ _ _ w.if-asked.true fires w.active_count.ensures (w.sum-is), search rules)
       | else-asked w ↦ (fires, w.sum-is ∙ without _ _ _ inv.1 w.if-asked.false, search rules)
     ]
 

@@ -5,4 +5,4 @@ use Rattle.pitch.proofs.octaves.first.Goals as goal
 
 pub returns : goal.returns
 unfolding first_octave
-returns c = rw log_of_min c.ceil32.ensures
+returns c = rw log_of_min c.ceil.ensures

@@ -4,4 +4,4 @@ use Rattle.pitch.proofs.octaves.tilt.Goals as goal
 
 pub returns : goal.returns
 unfolding tilt_of
-returns c = c.pick32.ensures
+returns c = c.pick.ensures

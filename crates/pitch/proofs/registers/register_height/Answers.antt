@@ -5,4 +5,4 @@ use Rattle.pitch.proofs.registers.register_height.Goals as goal
 
 pub returns : goal.returns
 unfolding height_of
-returns c = rw (log_of_min, log_of_range) c.clamp32.ensures
+returns c = rw (log_of_min, log_of_range) c.clamp.ensures

@@ -2,4 +2,4 @@
 use Rattle.script.proofs.values.is_lawful_config.Goals as goal
 
 pub returns : goal.returns
-returns c = rw (c.both-2.ensures, c.both.ensures, c.up_to-5.ensures, c.both-kinds.ensures, c.up_to-4.ensures, c.up_to-3.ensures, c.both-flags.ensures, c.up_to-2.ensures, c.up_to.ensures)
+returns c = rw (c.up_to-5.ensures, c.up_to-4.ensures, c.up_to-3.ensures, c.up_to-2.ensures, c.up_to.ensures)

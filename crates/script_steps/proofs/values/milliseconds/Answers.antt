@@ -9,14 +9,14 @@ use Rattle.settings.specs.Settings.{lawful_rate}
 use Rattle.script_steps.specs.Values.{milliseconds_of}
 use Rattle.script_steps.proofs.Exact.{many, Steps, steps}
 use Rattle.script_steps.proofs.values.milliseconds.Goals as goal
-use Rattle.script_steps.proofs.values.milliseconds.Goals.{After-f64_to_u64-parts}
+use Rattle.script_steps.proofs.values.milliseconds.Goals.{After-to_u64-parts}
 
 -- what the steps come to, of the whole number that the code has for the rate
-come : (c : After-f64_to_u64-parts) → Steps c.args.samples c.args.rate c.f64_to_u64-parts.result
+come : (c : After-to_u64-parts) → Steps c.args.samples c.args.rate c.to_u64-parts.result
 come c =
     let a = c.args in
-    let code : to_unsigned 64 (mul64 a.rate many) ≡ c.f64_to_u64-parts.result =
-    sym (c.f64_to_u64-parts.ensures ∙ ap (λ (x : Float). to_unsigned 64 (mul64 x many)) c.f32_to_f64.ensures) in
+    let code : to_unsigned 64 (mul64 a.rate many) ≡ c.to_u64-parts.result =
+    sym (c.to_u64-parts.ensures ∙ ap (λ (x : Float). to_unsigned 64 (mul64 x many)) c.from.ensures) in
     subst (Steps a.samples a.rate) code
     (steps a.samples a.rate c.ranges.samples.fits (passes _ c.well_formed.1.0.1) (sym c.lawful_rate.ensures ∙ c.if-lawful_rate.true))
 

@@ -4,4 +4,4 @@ use Rattle.script_steps.proofs.values.values_of.Goals as goal
 
 pub returns : goal.returns
 unfolding values_of
-returns c = rw (c.bits32.ensures, c.active_count.ensures, c.milliseconds.ensures, c.f64_to_f32.ensures, c.elapsed_samples-sample.ensures)
+returns c = rw (c.bits.ensures, c.active_count.ensures, c.milliseconds.ensures, c.f64_to_f32.ensures, c.elapsed_samples-sample.ensures)

@@ -4,4 +4,4 @@ use Rattle.settings.proofs.envelopes.cloud_lifetime.Goals as goal
 
 pub returns : goal.returns
 unfolding cloud_lifetime_of
-returns c = rw (c.clamp32.ensures, c.max32.ensures, c.raw.ensures, c.max32-minimum.ensures)
+returns c = rw (c.clamp.ensures, c.max.ensures, c.raw.ensures, c.max-minimum.ensures)

@@ -4,4 +4,4 @@ use Rattle.settings.proofs.envelopes.onset.Goals as goal
 
 pub returns : goal.returns
 unfolding onset_of
-returns c = rw c.max32.ensures
+returns c = rw c.max.ensures

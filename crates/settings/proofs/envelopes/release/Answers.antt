@@ -4,4 +4,4 @@ use Rattle.settings.proofs.envelopes.release.Goals as goal
 
 pub returns : goal.returns
 unfolding release_of
-returns c = rw (c.max32.ensures, c.max32-stage.ensures)
+returns c = rw (c.max.ensures, c.max-stage.ensures)

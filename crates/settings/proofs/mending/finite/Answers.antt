@@ -4,4 +4,4 @@ use Rattle.settings.proofs.mending.finite.Goals as goal
 
 pub returns : goal.returns
 unfolding finite_or
-returns c = rw (c.pick32.ensures, c.is_finite32.ensures)
+returns c = rw (c.pick.ensures, c.is_finite.ensures)

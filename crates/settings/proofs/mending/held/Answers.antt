@@ -4,4 +4,4 @@ use Rattle.settings.proofs.mending.held.Goals as goal
 
 pub returns : goal.returns
 unfolding held_to
-returns c = rw (c.clamp32.ensures, c.finite.ensures)
+returns c = rw (c.clamp.ensures, c.finite.ensures)

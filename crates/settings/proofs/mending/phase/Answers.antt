@@ -4,4 +4,4 @@ use Rattle.settings.proofs.mending.phase.Goals as goal
 
 pub returns : goal.returns
 unfolding phase_of
-returns c = rw (c.rem_euclid32.ensures, c.finite.ensures)
+returns c = rw (c.rem_euclid.ensures, c.finite.ensures)

@@ -14,7 +14,7 @@ unfolding choice_of
 returns-then-at-n c =
     let n = c.args.n in
     let draw = c.args.draw in
-    let at = c.f32_to_u64-at.ensures ∙ ap (λ (x : Float). to_unsigned 64 (mul32 draw x)) c.u64_to_f32.ensures in
+    let at = c.to_u64-at.ensures ∙ ap (λ (x : Float). to_unsigned 64 (mul32 draw x)) c.u64_to_f32.ensures in
     took _ _ _ _ (sym (ap (λ (k : ℕ). ltb (n - 1) k) at) ∙ lt-ltb _ _ c.if-at-n.true) refl
 
 pub returns : goal.returns
@@ -22,5 +22,5 @@ unfolding choice_of
 returns c =
     let n = c.args.n in
     let draw = c.args.draw in
-    let at = c.f32_to_u64-at.ensures ∙ ap (λ (x : Float). to_unsigned 64 (mul32 draw x)) c.u64_to_f32.ensures in
+    let at = c.to_u64-at.ensures ∙ ap (λ (x : Float). to_unsigned 64 (mul32 draw x)) c.u64_to_f32.ensures in
     skipped _ _ _ _ (sym (ap (λ (k : ℕ). ltb (n - 1) k) at) ∙ le-ltb _ _ c.if-at-n.false) at

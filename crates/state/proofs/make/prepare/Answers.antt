@@ -4,4 +4,4 @@ use Rattle.state.proofs.make.prepare.Goals as goal
 
 pub returns : goal.returns
 unfolding prepared_of
-returns c = rw (c.alpha.ensures, c.weights-default_partial_weights.ensures, c.partial_logs-partial_logs.ensures, c.f32_to_f64-rate.ensures)
+returns c = rw (c.alpha.ensures, c.weights-default_partial_weights.ensures, c.partial_logs-partial_logs.ensures, c.from-rate.ensures)

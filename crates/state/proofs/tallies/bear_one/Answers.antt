@@ -4,4 +4,4 @@ use Rattle.state.proofs.tallies.bear_one.Goals as goal
 
 pub returns : goal.returns
 unfolding born_one
-returns c = rw (c.hash-decision_hash.ensures, c.wrapping_add_usize-held.ensures.value, c.wrapping_add_u64-births.ensures.value)
+returns c = rw (c.hash-decision_hash.ensures, c.wrapping_add_usize-held.ensures.value)

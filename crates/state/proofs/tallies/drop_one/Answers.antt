@@ -1,5 +1,6 @@
 -- `drop_one` meets its contract: one counter grows.
+use mathlib.Core.Path.{refl}
 use Rattle.state.proofs.tallies.drop_one.Goals as goal
 
 pub returns : goal.returns
-returns c = rw c.wrapping_add_u64-dropped.ensures.value
+returns c = refl

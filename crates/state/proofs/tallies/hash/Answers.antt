@@ -4,4 +4,4 @@ use Rattle.state.proofs.tallies.hash.Goals as goal
 
 pub returns : goal.returns
 unfolding hash_of
-returns c = rw (c.mix.ensures, c.word-word.ensures, c.bits32-bits.ensures, c.rotate_left-turned.ensures)
+returns c = rw (c.mix.ensures, c.word-word.ensures, c.bits-bits.ensures, c.rotate_left-turned.ensures)

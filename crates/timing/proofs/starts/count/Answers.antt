@@ -11,6 +11,6 @@ pub returns-then-draw-2 : goal.returns-then-draw-2
 unfolding starts_drawn
 returns-then-draw-2 c = skipped _ _ _ _ c.if-draw.false (picked _ _ _ c.if-draw-2.true)
 
-pub returns : goal.returns
+pub returns-else-draw-2 : goal.returns-else-draw-2
 unfolding starts_drawn
-returns c = skipped _ _ _ _ c.if-draw.false (passed _ _ _ c.if-draw-2.false)
+returns-else-draw-2 c = skipped _ _ _ _ c.if-draw.false (passed _ _ _ c.if-draw-2.false)

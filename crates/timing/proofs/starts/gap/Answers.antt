@@ -4,4 +4,4 @@ use Rattle.timing.proofs.starts.gap.Goals as goal
 
 pub returns : goal.returns
 unfolding gap_of
-returns c = rw (c.f32_to_f64.ensures, c.floor32-step.ensures, c.random.ensures, c.wrapping_add_u64-second.ensures.value)
+returns c = rw (c.from.ensures, c.floor-step.ensures, c.random.ensures)

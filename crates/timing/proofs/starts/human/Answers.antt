@@ -4,4 +4,4 @@ use Rattle.timing.proofs.starts.human.Goals as goal
 
 pub returns : goal.returns
 unfolding human_of
-returns c = rw (c.pick64.ensures, c.f32_to_f64.ensures, c.random-draw.ensures)
+returns c = rw (c.pick.ensures, c.from.ensures, c.random-draw.ensures)

@@ -4,4 +4,4 @@ use Rattle.timing.proofs.starts.start.Goals as goal
 
 pub returns : goal.returns
 unfolding start_of
-returns c = rw (c.f32_to_f64.ensures, c.floor32-step.ensures, c.random.ensures)
+returns c = rw (c.from.ensures, c.floor-step.ensures, c.random.ensures)

@@ -11,4 +11,4 @@ pub returns : goal.returns
 unfolding attenuation_of log_place
 returns c =
     skipped _ _ _ _ c.if-depth_db.false
-    (rw (c.clamp32.ensures, c.opened-openness.ensures, c.log2-log.ensures, c.max32.ensures))
+    (rw (c.clamp.ensures, c.opened-openness.ensures, c.log2-log.ensures, c.max.ensures))

@@ -1,0 +1,8 @@
+-- `floor` at f32 meets its contract: the library's is the same number.
+use Rattle.std.proofs.Common.{◌∙◌}
+use lib.Ieee.{binary32}
+use Rattle.floats.proofs.Library.{floor-is}
+use Rattle.floats.proofs.real.F32Real.floor.Goals as goal
+
+pub returns : goal.returns
+returns c = c.floor.ensures ∙ floor-is binary32 c.args.self

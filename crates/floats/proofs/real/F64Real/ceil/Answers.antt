@@ -1,0 +1,8 @@
+-- `ceil` at f64 meets its contract: the library's is the same number.
+use Rattle.std.proofs.Common.{◌∙◌}
+use lib.Ieee.{binary64}
+use Rattle.floats.proofs.Library.{ceil-is}
+use Rattle.floats.proofs.real.F64Real.ceil.Goals as goal
+
+pub returns : goal.returns
+returns c = c.ceil.ensures ∙ ceil-is binary64 c.args.self
