@@ -1,4 +1,5 @@
 -- `take_turns` meets its contract: each field's turn is the definition's, and the turns go as far as is asked for.
+use mathlib.Core.Path.{refl}
 use Rattle.std.proofs.Common.{◌≡◌, Ok, ℕ, ◌+◌, ◌-◌, ◌≤◌, length, sym, ap, ◌∙◌, subst, arith}
 use Rattle.script.proofs.Part.{rest}
 use Rattle.script_steps.specs.Steps.{step_of}
