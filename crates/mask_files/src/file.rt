@@ -9,8 +9,8 @@ ghost use Rattle.mask_files.specs.Records.{filed_of};
 ghost use Rattle.mask_files.specs.Masks.{bins_of, logs_for, filed_into, masks_of};
 ghost use Rattle.mask_files.specs.Walk.{measured_of};
 
-use crate::frames::{next_record, start};
 use crate::Made;
+use crate::frames::{next_record, start};
 use refusals::Refusal;
 
 // Each record goes to the start of the same bytes.
@@ -143,7 +143,13 @@ fn longest_record() -> [u8; 16402]
 
 // The records of a script's accepted frames behind the first `at` bytes of `out`. A refusal leaves
 // `out` as it was.
-pub fn masks(script: &[u8], fft_size: usize, depth_db: f32, out: &mut [u8], at: usize) -> Result<usize, Refusal>
+pub fn masks(
+    script: &[u8],
+    fft_size: usize,
+    depth_db: f32,
+    out: &mut [u8],
+    at: usize,
+) -> Result<usize, Refusal>
     ensures { (result, out.new) ≡ masks_of script.now fft_size depth_db out.old at }
 {
     if fft_size < 1 {

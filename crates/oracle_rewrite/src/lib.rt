@@ -9,7 +9,6 @@ ghost use Rattle.script_writer_laws.specs.Events.{events};
 ghost use Rattle.script_writer_laws.specs.InARow.{count_after, bytes_after};
 ghost use Rattle.oracle_rewrite.specs.Rewritten.{field_in, taken_by};
 
-
 #[derive(Clone, Copy)]
 struct Rewritten {
     // How many bytes the field takes in the script; 0 where the reader stops.

@@ -8,7 +8,7 @@ use Rattle.sequences.specs.First.{first-fails, first_passes, first_or_len, found
 use Rattle.pool.specs.declared.Particle.{Particle}
 use Rattle.pool.specs.Pool.{free_particle}
 use Rattle.pool.specs.Vacancies.{is_free, free_place, vacant_place}
-use Rattle.std.specs.Prelude.{Option, Some, None, position}
+use Rattle.std.specs.Prelude.{Some, None, position}
 use Rattle.std.specs.List.{position_or_len}
 use Rattle.sequences.specs.Pick.{picked, passed, by-case}
 use Rattle.std.proofs.lemmas.Option.{none-some, same_Some}

@@ -2,9 +2,9 @@
 ghost use Rattle.std.specs.Prelude.{◌≡◌, ◌≤◌, length};
 ghost use Rattle.script.specs.Field.{body_of};
 
-use crate::tags::Kind;
 use crate::fields::Field;
 use crate::tags;
+use crate::tags::Kind;
 use big_endian::be16_at;
 use refusals::Refusal;
 

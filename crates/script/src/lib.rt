@@ -56,11 +56,7 @@ pub fn read_field(script: &[u8], first: bool) -> Result<Option<(Field, usize)>, 
     ensures { result ≡ read_of script.now first }
 {
     if script.len() == 0 {
-        return if first {
-            Err(Refusal::Place)
-        } else {
-            Ok(None)
-        };
+        return if first { Err(Refusal::Place) } else { Ok(None) };
     }
     read_header(script, first)
 }

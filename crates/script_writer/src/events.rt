@@ -95,7 +95,12 @@ pub fn write_reserve(out: &mut [u8], at: usize) -> Result<usize, Refusal>
     write_tagged(12, &[], out, at)
 }
 
-pub fn write_reserved_trigger(slot: u16, index: u64, out: &mut [u8], at: usize) -> Result<usize, Refusal>
+pub fn write_reserved_trigger(
+    slot: u16,
+    index: u64,
+    out: &mut [u8],
+    at: usize,
+) -> Result<usize, Refusal>
     ensures { (result ≡ written_of (length out.old) at (encoded (F.ReservedTrigger slot index))) × (out.new ≡ buffer_of out.old at (encoded (F.ReservedTrigger slot index))) }
 {
     write_tagged(13, &reserved_value(slot, index), out, at)

@@ -1,5 +1,4 @@
 -- `barred` meets its contract: one test, then the other.
-use Rattle.std.proofs.Common.{rules}
 use Rattle.births.specs.Birth.{is_barred}
 use Rattle.births.proofs.arrivals.barred.Goals as goal
 

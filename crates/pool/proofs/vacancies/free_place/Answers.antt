@@ -1,5 +1,5 @@
 -- `free_place` meets its contract: the library's `position` finds the first free one.
-use Rattle.std.proofs.Common.{◌∙◌, rules, tests, not}
+use Rattle.std.proofs.Common.{◌∙◌, rules, tests}
 use Rattle.std.proofs.lemmas.Iterator.{YieldsList-from_slice}
 use Rattle.std.proofs.lemmas.Iterator.Search.{position_from_yields_List}
 use Rattle.pool.proofs.Lowest.{vacant-sought}
