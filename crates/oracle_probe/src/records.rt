@@ -69,7 +69,12 @@ pub extern "C" fn rk_probe_write_record(
 }
 
 // 255 stands for the end. Sample, count and size are left but by a record that is found.
-fn told_found(read: Result<Option<Found>, Refusal>, sample: &mut u64, count: &mut u64, taken: &mut u64) -> u64
+fn told_found(
+    read: Result<Option<Found>, Refusal>,
+    sample: &mut u64,
+    count: &mut u64,
+    taken: &mut u64,
+) -> u64
     ensures { (result, sample.new, count.new, taken.new) ≡ told_numbers sample.old count.old taken.old read }
 {
     match read {
