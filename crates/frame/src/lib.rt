@@ -85,6 +85,7 @@ fn sweep(
     freed
 }
 
+// The frame of seconds that are accepted.
 fn take(engine: &mut Engine, bin_hz: f32, elapsed_seconds: f32) -> Frame
     ensures frame { result ≡ (taken_of engine.old bin_hz elapsed_seconds).frame }
     ensures engine { engine.new ≡ (taken_of engine.old bin_hz elapsed_seconds).engine }
