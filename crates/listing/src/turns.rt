@@ -1,6 +1,8 @@
 // The turns of a script: each field goes to the engine, and has a line.
 ghost use Rattle.std.specs.Prelude.{◌≡◌, ◌-◌, ◌≤◌, length};
-ghost use Rattle.script_steps.specs.Steps.{step_of};
+ghost use Rattle.engine.specs.New.{new_engine_of};
+ghost use Rattle.frame.specs.Call.{framed_of};
+ghost use Rattle.script_steps.specs.Steps.{done_of, framed_step, step_of};
 ghost use Rattle.listing.specs.Turns.{told_of, bad_place, turn_of};
 ghost use Rattle.listing.specs.Last.{last_turn_of};
 ghost use Rattle.listing.specs.Reaching.{is_silent, is_frameless, goes_on_of, reached_at, inside_of, reached_of};
@@ -147,16 +149,35 @@ fn inside(at: usize, script: &[u8]) -> usize
     if at < script.len() { at } else { script.len() }
 }
 
-// A field's call, and what is to be said of it; the frame is the last one accepted.
+// The rate's engine in place of the run's. A function of its own, as `show` is: a function clears its
+// locals as it begins, and in `step` these would be cleared for every field.
+fn make(run: &mut Run, rate: f32) -> Result<Option<Values>, Refusal>
+    ensures { record { run = run.new; reply = result } ≡ done_of run.old (new_engine_of rate) }
+{
+    let done = engine::new_engine(rate);
+    run.engine = done.engine;
+    script_steps::answered(done.answer)
+}
+
+// The frame stays the last one accepted.
+fn show(run: &mut Run, bin_hz: f32, elapsed: f32) -> Result<Option<Values>, Refusal>
+    ensures { record { run = run.new; reply = result } ≡ framed_step run.old (framed_of run.old.engine bin_hz elapsed) }
+{
+    match frame::take_frame(&mut run.engine, bin_hz, elapsed) {
+        Ok(frame) => {
+            run.frame = frame;
+            Ok(Some(script_steps::values_of(&run.engine, run.frame.activity)))
+        }
+        Err(refusal) => Err(refusal),
+    }
+}
+
+// A field's call, and what is to be said of it.
 fn step(run: &mut Run, field: Field) -> Result<Option<Values>, Refusal>
     ensures { record { run = run.new; reply = result } ≡ step_of run.old field }
 {
     match field {
-        Field::Rate(rate) => {
-            let done = engine::new_engine(rate);
-            run.engine = done.engine;
-            script_steps::answered(done.answer)
-        }
+        Field::Rate(rate) => make(run, rate),
         Field::Configure(config) => {
             script_steps::answered(engine::configure(&mut run.engine, config))
         }
@@ -184,15 +205,7 @@ fn step(run: &mut Run, field: Field) -> Result<Option<Values>, Refusal>
         Field::Advance(samples) => {
             script_steps::answered(engine::advance(&mut run.engine, samples as u64))
         }
-        Field::Frame(bin_hz, elapsed) => {
-            match frame::take_frame(&mut run.engine, bin_hz, elapsed) {
-                Ok(frame) => {
-                    run.frame = frame;
-                    Ok(Some(script_steps::values_of(&run.engine, run.frame.activity)))
-                }
-                Err(refusal) => Err(refusal),
-            }
-        }
+        Field::Frame(bin_hz, elapsed) => show(run, bin_hz, elapsed),
         Field::NoteInput(present) => {
             engine::set_note_input_present(&mut run.engine, present);
             Ok(None)

@@ -1,20 +1,16 @@
 -- `step` meets its contract: a call for each field, and its line of `step_of`.
-use Rattle.std.proofs.Common.{sym, ap, ◌∙◌, Some, Ok}
-use Rattle.state.specs.declared.Done.{Done}
-use Rattle.script_steps.specs.declared.values.Values.{Values}
+use Rattle.std.proofs.Common.{ap}
 use Rattle.script_steps.specs.Steps.{quiet_step, step_of}
-use Rattle.listing.proofs.Fields.{left, framed_as, by-done, by-trigger, by-frame}
+use Rattle.listing.proofs.Fields.{by-done, by-trigger}
 use Rattle.listing.proofs.turns.step.Goals as goal
 
 pub returns-in-Rate : goal.returns-in-Rate
 unfolding step_of
-returns-in-Rate c =
-    let made = c.new_engine-done in
-    rw c.in-Rate.is (by-done c.args.run.now _ _ _ _ (ap (λ (x : Done). x.answer) made.ensures) (ap (λ (x : Done). x.engine) made.ensures) c.answered.ensures)
+returns-in-Rate c = rw c.in-Rate.is c.make.ensures
 
 pub returns-in-Configure : goal.returns-in-Configure
 unfolding step_of
-returns-in-Configure c = rw c.in-Configure.is (by-done c.args.run.now _ _ _ _ c.configure.ensures.answer c.configure.ensures.engine c.answered-in-Configure.ensures)
+returns-in-Configure c = rw c.in-Configure.is (by-done c.args.run.now _ _ _ _ c.configure.ensures.answer c.configure.ensures.engine c.answered.ensures)
 
 pub returns-in-Source : goal.returns-in-Source
 unfolding step_of
@@ -40,23 +36,9 @@ pub returns-in-Advance : goal.returns-in-Advance
 unfolding step_of
 returns-in-Advance c = rw c.in-Advance.is (by-done c.args.run.now _ _ _ _ c.advance.ensures.answer c.advance.ensures.engine c.answered-in-Advance.ensures)
 
-pub returns-in-Ok : goal.returns-in-Ok
+pub returns-in-Frame : goal.returns-in-Frame
 unfolding step_of
-returns-in-Ok c =
-    let run = c.args.run.now in
-    let e = c.take_frame.new.engine in
-    let f = c.in-Ok.frame in
-    rw c.in-Frame.is
-    (ap (λ (v : Values). left (record { engine = e; frame = f }) (Ok (Some v))) c.values_of.ensures
-    ∙ ap (framed_as run e) (sym c.in-Ok.is)
-    ∙ by-frame run e _ _ c.take_frame.ensures.answer c.take_frame.ensures.engine)
-
-pub returns-in-Err : goal.returns-in-Err
-unfolding step_of
-returns-in-Err c =
-    let run = c.args.run.now in
-    let e = c.take_frame.new.engine in
-    rw c.in-Frame.is (ap (framed_as run e) (sym c.in-Err.is) ∙ by-frame run e _ _ c.take_frame.ensures.answer c.take_frame.ensures.engine)
+returns-in-Frame c = rw c.in-Frame.is c.show.ensures
 
 pub returns-in-NoteInput : goal.returns-in-NoteInput
 unfolding step_of
