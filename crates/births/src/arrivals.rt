@@ -1,6 +1,6 @@
-// One birth: its source, the attempt, the place. It answers what it stores, so that no engine is moved.
+// One birth: its source, the attempt, the place; and what it stores.
 ghost use Rattle.std.specs.Prelude.{◌≡◌, ◌<◌, IfSome};
-ghost use Rattle.births.specs.Birth.{voice_by, chosen_by, tried_one, is_barred};
+ghost use Rattle.births.specs.Birth.{voice_by, chosen_by, tried_one, is_barred, born_of};
 ghost use Rattle.births.specs.Arrival.{turned_away, arrival_of};
 
 use crate::voices;
@@ -84,8 +84,8 @@ pub fn turned_away(slot: Option<usize>, tally: Tally) -> Arrival
 // The lowest free place is taken; where there is none, the birth is dropped. The choice is among what
 // is to be stored whatever else comes of it: a birth that is turned away leaves the sequence of sources
 // as it would have been.
-pub fn birth(engine: Engine, index: u64, own: Option<usize>) -> Arrival
-    ensures is { result ≡ arrival_of engine index own }
+pub fn birth(engine: &Engine, index: u64, own: Option<usize>) -> Arrival
+    ensures is { result ≡ arrival_of engine.now index own }
     ensures placed { IfSome result.place (λ i. i < 64) }
 {
     let sources = engine.sources;
@@ -127,5 +127,17 @@ pub fn birth(engine: Engine, index: u64, own: Option<usize>) -> Arrival
         tally,
         slot,
         place: Some(place),
+    }
+}
+
+// The birth, and what it stores.
+pub fn bear(engine: &mut Engine, index: u64, own: Option<usize>)
+    ensures { engine.new ≡ born_of engine.old index own }
+{
+    let arrival = birth(engine, index, own);
+    engine.next.last_source = arrival.slot;
+    engine.tally = arrival.tally;
+    if let Some(place) = arrival.place {
+        engine.particles[place] = arrival.particle;
     }
 }

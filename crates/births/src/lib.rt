@@ -13,7 +13,7 @@ use voices::Voice;
 mod arrivals;
 mod voices;
 
-pub use arrivals::birth;
+pub use arrivals::{bear, birth};
 
 pub const SPRINKLE_DECAY_POWER: u32 = 3;
 

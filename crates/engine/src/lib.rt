@@ -9,9 +9,7 @@ mod time;
 pub use counts::{active_count, elapsed_samples};
 pub use engine_changes::{configure, seek, set_note_input_present};
 pub use engine_sources::{release_source, retire_source, set_source};
-pub use engine_triggers::{
-    Outcome, Reserved, Triggered, reserve_trigger, trigger, trigger_reserved,
-};
+pub use engine_triggers::{Outcome, reserve_trigger, trigger, trigger_reserved};
 pub use make::{new_engine, reset};
 pub use time::advance;
 

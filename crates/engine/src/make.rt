@@ -9,20 +9,14 @@ pub fn new_engine(sample_rate: f32) -> Done
     ensures { result ≡ new_engine_of sample_rate }
 {
     if settings::lawful_rate(sample_rate) {
-        return Done {
-            answer: Ok(()),
-            engine: state::from_prepared(state::prepare(sample_rate)),
-        };
+        return state::take(state::from_prepared(state::prepare(sample_rate)));
     }
-    Done {
-        answer: Err(Refusal::Rate),
-        engine: state::from_prepared(state::prepare(48000.0)),
-    }
+    let engine = state::from_prepared(state::prepare(48000.0));
+    state::refuse(engine, Refusal::Rate)
 }
 
-pub fn reset(engine: Engine) -> Engine
-    ensures { result ≡ reset_of engine }
+pub fn reset(engine: &mut Engine)
+    ensures { engine.new ≡ reset_of engine.old }
 {
-    let prepared = engine.prepared;
-    state::from_prepared(prepared)
+    *engine = state::from_prepared(engine.prepared);
 }

@@ -4,61 +4,42 @@ ghost use Rattle.engine.specs.Advance.{advanced_of};
 
 use refusals::Refusal;
 use settings::Shape;
-use state::{Done, Engine};
+use state::Engine;
 
-pub fn advance(engine: Engine, samples: u64) -> Done
-    ensures { result ≡ advanced_of engine samples }
+pub fn advance(engine: &mut Engine, samples: u64) -> Result<(), Refusal>
+    ensures answer { result ≡ (advanced_of engine.old samples).answer }
+    ensures engine { engine.new ≡ (advanced_of engine.old samples).engine }
 {
     if samples > crate::MAX_ELAPSED_SAMPLES {
-        return Done {
-            answer: Err(Refusal::Elapsed),
-            engine,
-        };
+        return Err(Refusal::Elapsed);
     }
     if engine.clock.sample > crate::MAX_ELAPSED_SAMPLES - samples {
-        return Done {
-            answer: Err(Refusal::Elapsed),
-            engine,
-        };
+        return Err(Refusal::Elapsed);
     }
-    let mut out = engine;
     let mut i: u64 = 0;
     loop {
-        let config = out.config;
-        let streams = out.streams;
-        let clock = out.clock;
-        let starts = engine_samples::next_starts(config, streams, out.next.opportunity);
+        let config = engine.config;
+        let starts = engine_samples::next_starts(config, engine.streams, engine.next.opportunity);
         let tempo = engine_samples::tempo_of(
             config,
-            out.prepared.sample_rate,
-            out.prepared.phase_alpha,
+            engine.prepared.sample_rate,
+            engine.prepared.phase_alpha,
         );
-        let waited = engine_samples::wait(clock, starts, tempo, samples - i);
-        let moved = waited.clock;
-        out.clock = moved;
-        i = i + waited.count;
+        let waited = engine_samples::wait(engine.clock, starts, tempo, samples - i);
+        engine.clock = waited.clock;
+        i += waited.count;
         if i == samples {
-            return Done {
-                answer: Ok(()),
-                engine: out,
-            };
+            return Ok(());
         }
         // Something may be due: what it delivers comes first, and then the clock.
         if config.scheduled {
-            let shape = config.shape;
-            let reference = moved.phase + moved.phase_offset;
-            match shape {
-                Shape::Sprinkle => {
-                    out = engine_samples::lanes(out, reference);
-                }
-                Shape::Cloud => {
-                    out = engine_samples::cloud(out, reference);
-                }
+            let reference = engine.clock.phase + engine.clock.phase_offset;
+            match config.shape {
+                Shape::Sprinkle => engine_samples::lanes(engine, reference),
+                Shape::Cloud => engine_samples::cloud(engine, reference),
             }
         }
-        let now = out.clock;
-        let after = engine_samples::clock_after(now, tempo);
-        out.clock = after;
-        i = i + 1;
+        engine.clock = engine_samples::clock_after(engine.clock, tempo);
+        i += 1;
     }
 }

@@ -2,35 +2,26 @@
 #![tactic(auto)]
 
 ghost use Rattle.std.specs.Prelude.{◌≡◌};
-ghost use Rattle.state.specs.State.{with_config};
-ghost use Rattle.engine_changes.specs.Changes.{retired_all, aligned, reweighed, same_kind, switched, offset, enters, prepared_all, restarted, configured_to, configured_of, notes_of, sought_phase, sought_opportunity, sought_of};
+ghost use Rattle.engine_changes.specs.Changes.{retired_all, aligned, reweighed, same_kind, switched, offset, enters, prepared_all, restarted, configured_of, notes_of, sought_phase, sought_opportunity, sought_of};
 
+use refusals::Refusal;
 use settings::{Config, Shape};
-use state::{Clock, Done, Engine, Next};
+use state::Engine;
 use timing::{SPRINKLE_STREAMS, SprinkleStream};
 
-fn retire_all(engine: Engine) -> Engine
-    ensures { result ≡ retired_all engine }
+fn retire_all(engine: &mut Engine)
+    ensures { engine.new ≡ retired_all engine.old }
 {
-    let particles = engine.particles;
-    let retired = pool::retire_all(particles, engine.clock.sample);
-    let mut out = engine;
-    out.particles = retired;
-    out
+    engine.particles = pool::retire_all(engine.particles, engine.clock.sample);
 }
 
-fn reweigh(engine: Engine, config: Config) -> Engine
-    ensures { result ≡ reweighed engine config }
+fn reweigh(engine: &mut Engine, config: Config)
+    ensures { engine.new ≡ reweighed engine.old config }
 {
-    if config.partial_rolloff_db == engine.config.partial_rolloff_db {
-        return engine;
+    if config.partial_rolloff_db != engine.config.partial_rolloff_db {
+        let logs = engine.prepared.partial_logs;
+        engine.partial_weights = state::weights(logs, config.partial_rolloff_db);
     }
-    let prepared = engine.prepared;
-    let logs = prepared.partial_logs;
-    let weights = state::weights(logs, config.partial_rolloff_db);
-    let mut out = engine;
-    out.partial_weights = weights;
-    out
 }
 
 fn same_kind(before: Config, after: Config) -> bool
@@ -40,27 +31,21 @@ fn same_kind(before: Config, after: Config) -> bool
 }
 
 // Another shape, or on in place of off or the other way round, retires every particle.
-fn switch(engine: Engine, config: Config) -> Engine
-    ensures { result ≡ switched engine config }
+fn switch(engine: &mut Engine, config: Config)
+    ensures { engine.new ≡ switched engine.old config }
 {
-    let before = engine.config;
-    if same_kind(before, config) {
-        return engine;
+    if !same_kind(engine.config, config) {
+        retire_all(engine);
     }
-    retire_all(engine)
 }
 
 // Only before the first sample does the offset jump.
-fn offset(engine: Engine, phase: f32) -> Engine
-    ensures { result ≡ offset engine phase }
+fn offset(engine: &mut Engine, phase: f32)
+    ensures { engine.new ≡ offset engine.old phase }
 {
     if engine.clock.sample == 0 {
-        let to = f64::from(phase);
-        let mut out = engine;
-        out.clock.phase_offset = to;
-        return out;
+        engine.clock.phase_offset = f64::from(phase);
     }
-    engine
 }
 
 fn enters_sprinkle(before: Config, after: Config) -> bool
@@ -85,71 +70,46 @@ fn prepare_streams(
     [first, second, third]
 }
 
-fn align_streams(engine: Engine) -> Engine
-    ensures { result ≡ aligned engine }
+fn align_streams(engine: &mut Engine)
+    ensures { engine.new ≡ aligned engine.old }
 {
     let reference = engine.clock.phase + engine.clock.phase_offset;
-    let streams = timing::align_streams(reference, engine.config.sync);
-    let mut out = engine;
-    out.streams = streams;
-    out
+    engine.streams = timing::align_streams(reference, engine.config.sync);
 }
 
 // Entering Sprinkle begins its streams anew where the clock stands; a change of sync alone puts the
 // same starts on the grid or off it.
-fn restart(engine: Engine, before: Config) -> Engine
-    ensures { result ≡ restarted engine before }
+fn restart(engine: &mut Engine, before: Config)
+    ensures { engine.new ≡ restarted engine.old before }
 {
     let after = engine.config;
     if enters_sprinkle(before, after) {
-        return align_streams(engine);
+        align_streams(engine);
+    } else if before.sync != after.sync {
+        engine.streams = prepare_streams(engine.streams, after.sync);
     }
-    if before.sync == after.sync {
-        return engine;
-    }
-    let streams = engine.streams;
-    let prepared = prepare_streams(streams, after.sync);
-    let mut out = engine;
-    out.streams = prepared;
-    out
 }
 
-fn with_config(engine: Engine, config: Config) -> Engine
-    ensures { result ≡ with_config engine config }
+pub fn configure(engine: &mut Engine, config: Config) -> Result<(), Refusal>
+    ensures answer { result ≡ (configured_of engine.old config).answer }
+    ensures engine { engine.new ≡ (configured_of engine.old config).engine }
 {
-    let mut out = engine;
-    out.config = config;
-    out
-}
-
-fn configured(engine: Engine, config: Config) -> Engine
-    ensures { result ≡ configured_to engine config }
-{
+    settings::checked(config)?;
+    let config = settings::mended(config);
     let before = engine.config;
-    let weighed = reweigh(engine, config);
-    let switched = switch(weighed, config);
-    let moved = offset(switched, config.phase);
-    let set = with_config(moved, config);
-    restart(set, before)
-}
-
-pub fn configure(engine: Engine, config: Config) -> Done
-    ensures { result ≡ configured_of engine config }
-{
-    let checked = settings::checked(config);
-    match checked {
-        Ok(()) => state::take(configured(engine, settings::mended(config))),
-        Err(refusal) => state::refuse(engine, refusal),
-    }
+    reweigh(engine, config);
+    switch(engine, config);
+    offset(engine, config.phase);
+    engine.config = config;
+    restart(engine, before);
+    Ok(())
 }
 
 // Presence counts muted and unmapped notes: they must not let free particles in.
-pub fn set_note_input_present(engine: Engine, present: bool) -> Engine
-    ensures { result ≡ notes_of engine present }
+pub fn set_note_input_present(engine: &mut Engine, present: bool)
+    ensures { engine.new ≡ notes_of engine.old present }
 {
-    let mut out = engine;
-    out.next.note_input_present = present;
-    out
+    engine.next.note_input_present = present;
 }
 
 fn sought_phase(cycles: f64) -> f64
@@ -173,25 +133,16 @@ fn sought_opportunity(phase: f64, reference: f64) -> u64
 }
 
 // Starts anew at the destination; what was missed is never made up for.
-pub fn seek(engine: Engine, cycles: f64) -> Engine
-    ensures { result ≡ sought_of engine cycles }
+pub fn seek(engine: &mut Engine, cycles: f64)
+    ensures { engine.new ≡ sought_of engine.old cycles }
 {
-    let retired = retire_all(engine);
+    retire_all(engine);
     let phase = sought_phase(cycles);
     let phase_offset = f64::from(engine.config.phase);
-    let clock = Clock {
-        sample: engine.clock.sample,
-        phase,
-        phase_offset,
-    };
-    let next = Next {
-        opportunity: sought_opportunity(phase, phase + phase_offset),
-        immediate_index: 0,
-        last_source: None,
-        note_input_present: engine.next.note_input_present,
-    };
-    let mut out = retired;
-    out.clock = clock;
-    out.next = next;
-    align_streams(out)
+    engine.clock.phase = phase;
+    engine.clock.phase_offset = phase_offset;
+    engine.next.opportunity = sought_opportunity(phase, phase + phase_offset);
+    engine.next.immediate_index = 0;
+    engine.next.last_source = None;
+    align_streams(engine);
 }

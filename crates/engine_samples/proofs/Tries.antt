@@ -7,10 +7,7 @@ use Rattle.timing.specs.declared.SprinkleStream.{SprinkleStream}
 use Rattle.timing.specs.Streams.{moved_of}
 use Rattle.state.specs.declared.Engine.{Engine}
 use Rattle.state.specs.State.{with_streams, past_stream}
-use Rattle.births.specs.declared.arrivals.Arrival.{Arrival}
 use Rattle.births.specs.Birth.{born_of}
-use Rattle.births.specs.Arrival.{arrival_of, with_arrival}
-use Rattle.births.proofs.Born.{born-by}
 use Rattle.engine_samples.specs.Sample.{moved, tried_of}
 
 -- a try of every lane in its turn, two for each
@@ -48,12 +45,12 @@ module _ (e : Engine) (lane : ℕ) (reference : Float) where
     unfolding tried_of
     moved-silent q = skipped _ _ _ _ due (is-moved ∙ silent stream.emit e.config.enabled _ _ q)
 
-    pub moved-born : (key : ℕ) (a : Arrival) → pick stream.emit e.config.enabled false ≡ true → key ≡ key_of lane stream.index → a ≡ arrival_of after key None
-        → with_arrival after a ≡ tried_of e lane reference
+    pub moved-born : (key : ℕ) (born : Engine) → pick stream.emit e.config.enabled false ≡ true → key ≡ key_of lane stream.index → born ≡ born_of after key None
+        → born ≡ tried_of e lane reference
     unfolding tried_of
-    moved-born key a q k p =
+    moved-born key born q k p =
         skipped _ _ _ _ due
-        (born-by after key None a p
+        (p
         ∙ ap (λ (x : ℕ). born_of after x None) k
         ∙ ap (λ (x : Engine). born_of x (key_of lane stream.index) None) is-moved
         ∙ heard stream.emit e.config.enabled _ _ q)

@@ -16,31 +16,21 @@ fn sounds(emit: bool, enabled: bool) -> bool
 }
 
 // Each lane twice: a pair may start together; no backlog is kept. A stream is moved on before its birth,
-// which draws by the old index. All is stored where the engine stands: a lane that is not due moves
-// nothing, and a birth only its own particle.
-pub fn lanes(engine: Engine, reference: f64) -> Engine
-    ensures { result ≡ lanes_of engine reference }
+// which draws by the old index.
+pub fn lanes(engine: &mut Engine, reference: f64)
+    ensures { engine.new ≡ lanes_of engine.old reference }
 {
-    let mut out = engine;
     for k in 0..6 {
         let lane = k / 2;
-        let streams = out.streams;
-        let stream = streams[lane];
+        let stream = engine.streams[lane];
         if reference < stream.next {} else {
-            let moved = timing::move_on(stream, lane, reference, out.config.sync);
-            out.streams[lane] = moved;
-            if sounds(stream.emit, out.config.enabled) {
-                let key = draws::sprinkle_key(lane, stream.index);
-                let arrival = births::birth(out, key, None);
-                out.next.last_source = arrival.slot;
-                out.tally = arrival.tally;
-                if let Some(place) = arrival.place {
-                    out.particles[place] = arrival.particle;
-                }
+            let moved = timing::move_on(stream, lane, reference, engine.config.sync);
+            engine.streams[lane] = moved;
+            if sounds(stream.emit, engine.config.enabled) {
+                births::bear(engine, draws::sprinkle_key(lane, stream.index), None);
             }
         }
     }
-    out
 }
 
 fn opportunity_after(opportunity: u64, reference: f64) -> u64
@@ -54,26 +44,16 @@ fn opportunity_after(opportunity: u64, reference: f64) -> u64
     after
 }
 
-pub fn cloud(engine: Engine, reference: f64) -> Engine
-    ensures { result ≡ cloud_of engine reference }
+pub fn cloud(engine: &mut Engine, reference: f64)
+    ensures { engine.new ≡ cloud_of engine.old reference }
 {
-    let config = engine.config;
     let index = engine.next.opportunity;
     if reference >= timing::timing_reference(index) {
-        let after = opportunity_after(index, reference);
-        let mut out = engine;
-        out.next.opportunity = after;
-        if config.enabled {
-            let arrival = births::birth(out, index, None);
-            out.next.last_source = arrival.slot;
-            out.tally = arrival.tally;
-            if let Some(place) = arrival.place {
-                out.particles[place] = arrival.particle;
-            }
+        engine.next.opportunity = opportunity_after(index, reference);
+        if engine.config.enabled {
+            births::bear(engine, index, None);
         }
-        return out;
     }
-    engine
 }
 
 // Whole cycles taken off. While an offset glides it has nearly always none, and this no remainder.

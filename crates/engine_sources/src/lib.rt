@@ -7,61 +7,52 @@ ghost use Rattle.engine_sources.specs.Slots.{supplied_of, set_source_of, retire_
 
 use refusals::Refusal;
 use sources::{MAX_SOURCES, Source};
-use state::{Done, Engine};
+use state::Engine;
 
-fn place_source(engine: Engine, slot: usize, source: Source) -> Engine
+fn place_source(engine: &mut Engine, slot: usize, source: Source)
     requires { slot < max_sources }
-    ensures { result ≡ supplied_of engine slot source }
+    ensures { engine.new ≡ supplied_of engine.old slot source }
 {
-    let mut out = engine;
-    out.sources[slot] = source;
+    engine.sources[slot] = source;
     if sources::pitched(source.frequency_hz) {
-        let particles = engine.particles;
-        let retuned = pool::retune(particles, slot, source.frequency_hz);
-        out.particles = retuned;
-        return out;
+        engine.particles = pool::retune(engine.particles, slot, source.frequency_hz);
     }
-    out
 }
 
-pub fn set_source(engine: Engine, slot: usize, source: Source) -> Done
-    ensures { result ≡ set_source_of engine slot source }
+pub fn set_source(engine: &mut Engine, slot: usize, source: Source) -> Result<(), Refusal>
+    ensures answer { result ≡ (set_source_of engine.old slot source).answer }
+    ensures engine { engine.new ≡ (set_source_of engine.old slot source).engine }
 {
     if slot >= MAX_SOURCES {
-        return state::refuse(engine, Refusal::Slot);
+        return Err(Refusal::Slot);
     }
-    let old = engine.sources[slot];
-    if sources::same(old, source) {
-        return state::take(engine);
+    if !sources::same(engine.sources[slot], source) {
+        place_source(engine, slot, source);
     }
-    state::take(place_source(engine, slot, source))
+    Ok(())
 }
 
 // Clears the slot and retires those who follow it.
-pub fn retire_source(engine: Engine, slot: usize) -> Done
-    ensures { result ≡ retire_source_of engine slot }
+pub fn retire_source(engine: &mut Engine, slot: usize) -> Result<(), Refusal>
+    ensures answer { result ≡ (retire_source_of engine.old slot).answer }
+    ensures engine { engine.new ≡ (retire_source_of engine.old slot).engine }
 {
     if slot >= MAX_SOURCES {
-        return state::refuse(engine, Refusal::Slot);
+        return Err(Refusal::Slot);
     }
-    let none = Source::default();
-    let particles = engine.particles;
-    let retired = pool::retire_bound(particles, slot, engine.clock.sample);
-    let mut out = engine;
-    out.sources[slot] = none;
-    out.particles = retired;
-    state::take(out)
+    engine.sources[slot] = Source::default();
+    engine.particles = pool::retire_bound(engine.particles, slot, engine.clock.sample);
+    Ok(())
 }
 
 // The source supplies no more births; its windows finish at their last pitch.
-pub fn release_source(engine: Engine, slot: usize) -> Done
-    ensures { result ≡ release_source_of engine slot }
+pub fn release_source(engine: &mut Engine, slot: usize) -> Result<(), Refusal>
+    ensures answer { result ≡ (release_source_of engine.old slot).answer }
+    ensures engine { engine.new ≡ (release_source_of engine.old slot).engine }
 {
     if slot >= MAX_SOURCES {
-        return state::refuse(engine, Refusal::Slot);
+        return Err(Refusal::Slot);
     }
-    let old = engine.sources[slot];
-    let mut out = engine;
-    out.sources[slot] = sources::released(old);
-    state::take(out)
+    engine.sources[slot] = sources::released(engine.sources[slot]);
+    Ok(())
 }

@@ -5,10 +5,8 @@ use Rattle.settings.specs.Settings.{is_sprinkle}
 use Rattle.settings.specs.declared.Config.{Config}
 use Rattle.sources.specs.Sources.{is_eligible}
 use Rattle.sources.specs.declared.Source.{Source}
-use Rattle.state.specs.declared.Engine.{Engine}
-use Rattle.state.specs.State.{with_next}
 use Rattle.engine_triggers.specs.declared.Outcome.TheVariants.{Born, Dropped}
-use Rattle.engine_triggers.specs.Triggers.{Fired, with_index}
+use Rattle.engine_triggers.specs.Triggers.{Fired}
 
 abbrev pub permits : Config → Source → Bool
 permits config source = pick config.enabled (pick (is_sprinkle config.shape) (is_eligible source) false) false
@@ -16,6 +14,3 @@ permits config source = pick config.enabled (pick (is_sprinkle config.shape) (is
 -- dropped where `dropped` grew
 abbrev pub became_of : ℕ → ℕ → Fired
 became_of before after = pick (after == before) (Ok Born) (Ok Dropped)
-
-abbrev pub with_indexed : Engine → ℕ → Engine
-with_indexed e x = with_next e (with_index e.next x)

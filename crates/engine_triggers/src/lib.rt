@@ -1,9 +1,9 @@
 // Births that a note asks for at once.
 #![tactic(auto)]
 
-ghost use Rattle.std.specs.Prelude.{◌≡◌};
+ghost use Rattle.std.specs.Prelude.{◌≡◌, Ok};
 ghost use Rattle.engine_triggers.specs.Triggers.{reserved_of, triggered_by, triggered_of};
-ghost use Rattle.engine_triggers.specs.Firing.{permits, became_of, with_indexed};
+ghost use Rattle.engine_triggers.specs.Firing.{permits, became_of};
 
 use refusals::Refusal;
 use settings::Config;
@@ -18,12 +18,14 @@ pub enum Outcome {
     Dropped,
 }
 
+// What the definitions have of a trigger: the engine after it, and what it comes to.
 #[derive(Clone, Copy)]
 pub struct Triggered {
     pub engine: Engine,
     pub outcome: Result<Outcome, Refusal>,
 }
 
+// What the definitions have of a reservation: the index, and the engine after it.
 #[derive(Clone, Copy)]
 pub struct Reserved {
     pub index: u64,
@@ -32,14 +34,13 @@ pub struct Reserved {
 
 // An index is reserved when the note arrives, whatever becomes of it: overflow must not shift what
 // later notes draw.
-pub fn reserve_trigger(engine: Engine) -> Reserved
-    ensures { result ≡ reserved_of engine }
+pub fn reserve_trigger(engine: &mut Engine) -> u64
+    ensures index { result ≡ (reserved_of engine.old).index }
+    ensures engine { engine.new ≡ (reserved_of engine.old).engine }
 {
     let index = engine.next.immediate_index;
-    let after = index.wrapping_add(1);
-    let mut out = engine;
-    out.next.immediate_index = after;
-    Reserved { index, engine: out }
+    engine.next.immediate_index = index.wrapping_add(1);
+    index
 }
 
 fn permitted(config: Config, source: Source) -> bool
@@ -49,53 +50,35 @@ fn permitted(config: Config, source: Source) -> bool
 }
 
 // A birth that was dropped has made `dropped` grow.
-fn became(before: u64, after: u64) -> Result<Outcome, Refusal>
-    ensures { result ≡ became_of before after }
+fn became(before: u64, after: u64) -> Outcome
+    ensures { Ok result ≡ became_of before after }
 {
     if after == before {
-        return Ok(Outcome::Born);
-    }
-    Ok(Outcome::Dropped)
-}
-
-// A trigger by its index, which leaves `after` as the next one. It has one way out, on which the engine
-// is put together once.
-fn fire(engine: Engine, slot: usize, index: u64, after: u64) -> Triggered
-    ensures { result ≡ triggered_by (with_indexed engine after) slot index }
-{
-    let mut out = engine;
-    out.next.immediate_index = after;
-    let mut outcome = Err(Refusal::Slot);
-    if slot < sources::MAX_SOURCES {
-        let config = out.config;
-        let source = out.sources[slot];
-        outcome = Ok(Outcome::NotEligible);
-        if permitted(config, source) {
-            let arrival = births::birth(out, index ^ 9223372036854775808, Some(slot));
-            outcome = became(out.tally.dropped, arrival.tally.dropped);
-            out.next.last_source = arrival.slot;
-            out.tally = arrival.tally;
-            if let Some(place) = arrival.place {
-                out.particles[place] = arrival.particle;
-            }
-        }
-    }
-    Triggered {
-        engine: out,
-        outcome,
+        Outcome::Born
+    } else {
+        Outcome::Dropped
     }
 }
 
-pub fn trigger_reserved(engine: Engine, slot: usize, index: u64) -> Triggered
-    ensures { result ≡ triggered_by engine slot index }
+pub fn trigger_reserved(engine: &mut Engine, slot: usize, index: u64) -> Result<Outcome, Refusal>
+    ensures outcome { result ≡ (triggered_by engine.old slot index).outcome }
+    ensures engine { engine.new ≡ (triggered_by engine.old slot index).engine }
 {
-    fire(engine, slot, index, engine.next.immediate_index)
+    if slot >= sources::MAX_SOURCES {
+        return Err(Refusal::Slot);
+    }
+    if !permitted(engine.config, engine.sources[slot]) {
+        return Ok(Outcome::NotEligible);
+    }
+    let dropped = engine.tally.dropped;
+    births::bear(engine, index ^ 9223372036854775808, Some(slot));
+    Ok(became(dropped, engine.tally.dropped))
 }
 
-pub fn trigger(engine: Engine, slot: usize) -> Triggered
-    ensures { result ≡ triggered_of engine slot }
+pub fn trigger(engine: &mut Engine, slot: usize) -> Result<Outcome, Refusal>
+    ensures outcome { result ≡ (triggered_of engine.old slot).outcome }
+    ensures engine { engine.new ≡ (triggered_of engine.old slot).engine }
 {
-    let index = engine.next.immediate_index;
-    let next = index.wrapping_add(1);
-    fire(engine, slot, index, next)
+    let index = reserve_trigger(engine);
+    trigger_reserved(engine, slot, index)
 }

@@ -1,11 +1,14 @@
 // A frame: frees the places that are due, and shows every particle that holds one.
 #![tactic(auto)]
 
-ghost use Rattle.std.specs.Prelude.{◌≡◌};
-ghost use Rattle.state.specs.State.{with_particles};
+ghost use Rattle.std.specs.Prelude.{◌≡◌, map};
+ghost use Rattle.sequences.specs.Walk.{count};
 ghost use Rattle.frame.specs.Frame.{activity_of, accepted};
-ghost use Rattle.frame.specs.Call.{renewed_of, taken_of, refused_of, framed_of};
+ghost use Rattle.frame.specs.Freed.{is_freed, sweep_one};
+ghost use Rattle.frame.specs.Shown.{shown_of};
+ghost use Rattle.frame.specs.Call.{renewed_of, taken_of, framed_of, shown_by};
 
+use places::Shown;
 use pool::{MAX_PARTICLES, Particle};
 use refusals::Refusal;
 use state::Engine;
@@ -16,8 +19,8 @@ mod places;
 
 pub const TRANSITION_SECONDS: f32 = 0.05;
 
-// The two-byte answer stands last: before the others it would put them at odd addresses, where copies
-// are slow.
+// What the definitions have of a frame's call: the engine after it, the frame, empty where it is refused,
+// and the answer.
 #[derive(Clone, Copy)]
 pub struct Framed {
     pub engine: Engine,
@@ -48,79 +51,63 @@ fn accepts(elapsed_seconds: f32) -> bool
     }
 }
 
-// The engine after a frame: the places that are still held, the number of those freed taken off, and the
-// attempts renewed.
-fn renewed(engine: Engine, held: [Particle; MAX_PARTICLES], freed: usize, activity: f32) -> Engine
-    ensures { result ≡ renewed_of engine held freed activity }
+// The engine after a frame: the number of the places freed taken off, and the attempts renewed.
+fn renew(engine: &mut Engine, freed: usize, activity: f32)
+    ensures { engine.new ≡ renewed_of engine.old engine.old.particles freed activity }
 {
-    let still = std::num::wrapping_sub_usize(engine.tally.held, freed);
-    let mut out = engine;
-    out.particles = held;
-    out.activity = activity;
-    out.tally.attempts = 0;
-    out.tally.held = still;
-    out
+    engine.activity = activity;
+    engine.tally.attempts = 0;
+    engine.tally.held = std::num::wrapping_sub_usize(engine.tally.held, freed);
 }
 
 // One pass over the places frees and counts those that are due, and works out what the others show.
-// A place is stored only where it is freed, so that the others aren't copied; and the pass stands here,
-// where no call has to hand both arrays on.
-fn taken(
-    engine: Engine,
-    particles: [Particle; MAX_PARTICLES],
-    bin_hz: f32,
-    elapsed_seconds: f32,
-) -> Framed
-    ensures { result ≡ taken_of (with_particles engine particles) bin_hz elapsed_seconds }
+// A place is stored only where it is freed, so that the others aren't copied.
+fn sweep(
+    particles: &mut [Particle; MAX_PARTICLES],
+    shown: &mut [Shown; MAX_PARTICLES],
+    sample: u64,
+    rate: f64,
+) -> usize
+    ensures freed { result ≡ count (is_freed sample rate) particles.old }
+    ensures held { particles.new ≡ map (sweep_one sample rate) particles.old }
+    ensures shown { shown.new ≡ map (shown_of sample rate) particles.new }
 {
-    let config = engine.config;
-    let prepared = engine.prepared;
-    let logs = prepared.partial_logs;
-    let sample = engine.clock.sample;
-    let rate = prepared.sample_rate;
-    let free = Particle::default();
-    let nothing = places::nothing_shown();
-    let mut held = particles;
-    let mut shown = [nothing; MAX_PARTICLES];
     let mut freed: usize = 0;
-    for (i, p) in held.iter_mut().enumerate() {
+    for (i, p) in particles.iter_mut().enumerate() {
         if places::freed(*p, sample, rate) {
-            *p = free;
-            shown[i] = nothing;
+            *p = Particle::default();
+            shown[i] = places::nothing_shown();
             freed += 1;
         } else {
             shown[i] = places::show(*p, sample, rate);
         }
     }
-    let windows = partials::windows(shown, logs, bin_hz, pitch::max_hz(rate));
-    let activity = activity(engine.activity, config.enabled, elapsed_seconds);
-    let frame = Frame { windows, activity };
-    let engine = renewed(engine, held, freed, activity);
-    Framed {
-        answer: Ok(()),
-        frame,
-        engine,
-    }
+    freed
 }
 
-fn refused(engine: Engine) -> Framed
-    ensures { result ≡ refused_of engine }
+// The frame of seconds that are accepted.
+fn take(engine: &mut Engine, bin_hz: f32, elapsed_seconds: f32) -> Frame
+    ensures frame { result ≡ (taken_of engine.old bin_hz elapsed_seconds).frame }
+    ensures engine { engine.new ≡ (taken_of engine.old bin_hz elapsed_seconds).engine }
 {
-    let frame = Frame::default();
-    Framed {
-        answer: Err(Refusal::Seconds),
-        frame,
-        engine,
-    }
+    let sample = engine.clock.sample;
+    let rate = engine.prepared.sample_rate;
+    let mut shown = [places::nothing_shown(); MAX_PARTICLES];
+    let freed = sweep(&mut engine.particles, &mut shown, sample, rate);
+    let logs = engine.prepared.partial_logs;
+    let windows = partials::windows(shown, logs, bin_hz, pitch::max_hz(rate));
+    let activity = activity(engine.activity, engine.config.enabled, elapsed_seconds);
+    renew(engine, freed, activity);
+    Frame { windows, activity }
 }
 
 // Evaluated once at the spectral boundary; it renews the attempts.
-pub fn take_frame(engine: Engine, bin_hz: f32, elapsed_seconds: f32) -> Framed
-    ensures { result ≡ framed_of engine bin_hz elapsed_seconds }
+pub fn take_frame(engine: &mut Engine, bin_hz: f32, elapsed_seconds: f32) -> Result<Frame, Refusal>
+    ensures answer { result ≡ shown_by (framed_of engine.old bin_hz elapsed_seconds) }
+    ensures engine { engine.new ≡ (framed_of engine.old bin_hz elapsed_seconds).engine }
 {
-    if accepts(elapsed_seconds) {
-        let particles = engine.particles;
-        return taken(engine, particles, bin_hz, elapsed_seconds);
+    if !accepts(elapsed_seconds) {
+        return Err(Refusal::Seconds);
     }
-    refused(engine)
+    Ok(take(engine, bin_hz, elapsed_seconds))
 }

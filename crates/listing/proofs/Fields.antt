@@ -1,59 +1,59 @@
--- One field's turn from what its call left: the engine, the last frame and the reply.
-use Rattle.std.proofs.Common.{◌≡◌, ℕ, eqb, List, drop, sym, ap, ◌∙◌, Some, None, Ok, Err}
+-- One field's turn from what its call left: the run and the reply.
+use Rattle.std.proofs.Common.{◌≡◌, ℕ, eqb, List, drop, sym, refl, ap, ◌∙◌, Some, Result, Ok, Err}
 use Rattle.refusals.specs.Numbers.{Answer}
 use Rattle.refusals.specs.declared.Refusal.{Refusal}
+use Rattle.engine_triggers.specs.Triggers.{Fired}
 use Rattle.engine_triggers.specs.declared.Triggered.{Triggered}
 use Rattle.state.specs.declared.Done.{Done}
 use Rattle.state.specs.declared.Engine.{Engine}
 use Rattle.windows.specs.declared.Frame.{Frame}
 use Rattle.frame.specs.declared.Framed.{Framed}
-use Rattle.script_steps.specs.declared.values.Values.{Values}
-use Rattle.script_steps.specs.Values.{values_of}
+use Rattle.frame.specs.Call.{answer_with, shown_by}
 use Rattle.script.specs.declared.fields.Field.{Field}
 use Rattle.script.specs.Field.{Read, read_of}
 use Rattle.script_steps.specs.Replies.{Reply, reply_of}
 use Rattle.script_steps.specs.declared.Run.{Run}
 use Rattle.script_steps.specs.declared.Stepped.{Stepped}
-use Rattle.script_steps.specs.Steps.{done_of, fired_of, quiet_step, framed_step, frame_step_of, step_of}
+use Rattle.script_steps.specs.Steps.{with_engine, done_of, fired_of, refused_step, shown_step, framed_step, frame_step_of, step_of}
 use Rattle.script_steps.proofs.Together.{answered-is, outcome-is}
 use Rattle.listing.specs.declared.turns.Said.{Said}
 use Rattle.listing.specs.Saying.{said_of}
 use Rattle.listing.specs.Turns.{told_of, replied_of, after_of, turn_of}
 use Rattle.listing.proofs.TurnLaws.{said_as}
 
-abbrev pub left : Engine → Frame → Reply → Stepped
-left e f r = record { run = record { engine = e; frame = f }; reply = r }
+abbrev pub left : Run → Reply → Stepped
+left run r = record { run = run; reply = r }
 
-module _ (run : Run) (e : Engine) (f : Frame) (r : Reply) where
-  same : (e' : Engine) (f' : Frame) (r' : Reply) → e ≡ e' → f ≡ f' → r ≡ r' → left e f r ≡ left e' f' r'
-  same e' f' r' p q w = ap (λ (x : Engine). left x f r) p ∙ ap (λ (x : Frame). left e' x r) q ∙ ap (left e' f') w
+-- what a frame's call answered, with the engine after it
+abbrev pub framed_as : Run → Engine → Result Frame Refusal → Stepped
+framed_as run e (Ok f) = shown_step e f
+framed_as run e (Err r) = refused_step run e r
 
-  -- a call that is taken or refused
-  pub by-done : (d d' : Done) → d ≡ d' → e ≡ d.engine → f ≡ run.frame → r ≡ reply_of d.answer → left e f r ≡ done_of run d'
-  by-done d d' is p q w = same d.engine run.frame (reply_of d.answer) p q w ∙ answered-is run d.engine d.answer ∙ ap (done_of run) is
+frame-told : (run : Run) (e : Engine) (f : Frame) (a : Answer) → framed_as run e (answer_with f a) ≡ frame_step_of run e f a
+frame-told run e f (Ok tt) = refl
+frame-told run e f (Err r) = refl
 
-  pub by-trigger : (t t' : Triggered) → t ≡ t' → e ≡ t.engine → f ≡ run.frame → r ≡ reply_of t.outcome → left e f r ≡ fired_of run t'
-  by-trigger t t' is p q w = same t.engine run.frame (reply_of t.outcome) p q w ∙ outcome-is run t.engine t.outcome ∙ ap (fired_of run) is
+module _ (run : Run) (e : Engine) where
+  module _ (r : Reply) where
+    -- a call that is taken or refused
+    pub by-done : (d : Done) (a : Answer) → a ≡ d.answer → e ≡ d.engine → r ≡ reply_of a → left (with_engine run e) r ≡ done_of run d
+    by-done d a p q w =
+        ap (λ (x : Engine). left (with_engine run x) r) q
+        ∙ ap (left (with_engine run d.engine)) (w ∙ ap (λ (x : Answer). reply_of x) p)
+        ∙ answered-is run d.engine d.answer
 
-  -- a call that always takes, and prints nothing
-  pub by-quiet : (d d' : Engine) → d ≡ d' → e ≡ d → f ≡ run.frame → r ≡ Ok None → left e f r ≡ quiet_step run d'
-  by-quiet d d' is p q w = same d run.frame (Ok None) p q w ∙ ap (quiet_step run) is
+    pub by-trigger : (t : Triggered) (o : Fired) → o ≡ t.outcome → e ≡ t.engine → r ≡ reply_of o → left (with_engine run e) r ≡ fired_of run t
+    by-trigger t o p q w =
+        ap (λ (x : Engine). left (with_engine run x) r) q
+        ∙ ap (left (with_engine run t.engine)) (w ∙ ap (λ (x : Fired). reply_of x) p)
+        ∙ outcome-is run t.engine t.outcome
 
-  module _ (g g' : Framed) (is : g ≡ g') (p : e ≡ g.engine) where
-    framed_as : left e f r ≡ frame_step_of run g.engine g.frame g.answer → left e f r ≡ framed_step run g'
-    framed_as h = h ∙ ap (framed_step run) is
-
-    pub by-frame : (v : Values) → g.answer ≡ Ok tt → f ≡ g.frame → v ≡ values_of g.engine g.frame.activity → r ≡ Ok (Some v) → left e f r ≡ framed_step run g'
-    by-frame v taken q w u =
-        framed_as
-        (same g.engine g.frame (Ok (Some (values_of g.engine g.frame.activity))) p q (u ∙ ap (λ (x : Values). Ok (Some x)) w)
-        ∙ sym (ap (λ (a : Answer). frame_step_of run g.engine g.frame a) taken))
-
-    pub by_no_frame : (x : Refusal) → g.answer ≡ Err x → f ≡ run.frame → r ≡ Err x → left e f r ≡ framed_step run g'
-    by_no_frame x refused q u =
-        framed_as
-        (same g.engine run.frame (Err x) p q u
-        ∙ sym (ap (λ (a : Answer). frame_step_of run g.engine g.frame a) refused))
+  -- a frame's call
+  pub by-frame : (g : Framed) (a : Result Frame Refusal) → a ≡ shown_by g → e ≡ g.engine → framed_as run e a ≡ framed_step run g
+  by-frame g a p q =
+      ap (framed_as run e) p
+      ∙ ap (λ (x : Engine). framed_as run x (shown_by g)) q
+      ∙ frame-told run g.engine g.frame g.answer
 
 -- ---- the turn
 module _ (run : Run) (n at : ℕ) (s : List ℕ) (read : Read) (is : read ≡ read_of (drop at s) (eqb n 1)) where
@@ -61,7 +61,7 @@ module _ (run : Run) (n at : ℕ) (s : List ℕ) (read : Read) (is : read ≡ re
   unfolding turn_of
   turn_as r p = ap (after_of run n at s) (sym p ∙ is)
 
-  pub turn_of_lem : (field : Field) (k : ℕ) (e : Engine) (f : Frame) (r : Reply) (w : Said) → read ≡ Ok (Some (field, k)) → left e f r ≡ step_of run field → w ≡ said_of n at k r
-      → told_of (record { engine = e; frame = f }) w.line w.taken ≡ turn_of run n at s
-  turn_of_lem field k e f r w p stepped said =
-      said_as n at k (record { engine = e; frame = f }) r w said ∙ ap (λ (x : Stepped). replied_of n at k x.run x.reply) stepped ∙ turn_as (Ok (Some (field, k))) p
+  pub turn_of_lem : (field : Field) (k : ℕ) (next : Run) (r : Reply) (w : Said) → read ≡ Ok (Some (field, k)) → left next r ≡ step_of run field → w ≡ said_of n at k r
+      → told_of next w.line w.taken ≡ turn_of run n at s
+  turn_of_lem field k next r w p stepped said =
+      said_as n at k next r w said ∙ ap (λ (x : Stepped). replied_of n at k x.run x.reply) stepped ∙ turn_as (Ok (Some (field, k))) p

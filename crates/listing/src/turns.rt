@@ -1,5 +1,8 @@
 // The turns of a script: each field goes to the engine, and has a line.
 ghost use Rattle.std.specs.Prelude.{◌≡◌, ◌-◌, ◌≤◌, length};
+ghost use Rattle.engine.specs.New.{new_engine_of};
+ghost use Rattle.frame.specs.Call.{framed_of};
+ghost use Rattle.script_steps.specs.Steps.{done_of, framed_step, step_of};
 ghost use Rattle.listing.specs.Turns.{told_of, bad_place, turn_of};
 ghost use Rattle.listing.specs.Last.{last_turn_of};
 ghost use Rattle.listing.specs.Reaching.{is_silent, is_frameless, goes_on_of, reached_at, inside_of, reached_of};
@@ -146,123 +149,107 @@ fn inside(at: usize, script: &[u8]) -> usize
     if at < script.len() { at } else { script.len() }
 }
 
-// Field n stands at `at`. One turn after the other, as far as is asked for. The engine and the frame
-// stand here alone, and each call's answer is stored where they stand: handed through a function for
-// each field they would be copied for each.
+// The rate's engine in place of the run's. A function of its own, as `show` is: a function clears its
+// locals as it begins, and in `step` these would be cleared for every field.
+fn make(run: &mut Run, rate: f32) -> Result<Option<Values>, Refusal>
+    ensures { record { run = run.new; reply = result } ≡ done_of run.old (new_engine_of rate) }
+{
+    let done = engine::new_engine(rate);
+    run.engine = done.engine;
+    script_steps::answered(done.answer)
+}
+
+// The frame stays the last one accepted.
+fn show(run: &mut Run, bin_hz: f32, elapsed: f32) -> Result<Option<Values>, Refusal>
+    ensures { record { run = run.new; reply = result } ≡ framed_step run.old (framed_of run.old.engine bin_hz elapsed) }
+{
+    match frame::take_frame(&mut run.engine, bin_hz, elapsed) {
+        Ok(frame) => {
+            run.frame = frame;
+            Ok(Some(script_steps::values_of(&run.engine, run.frame.activity)))
+        }
+        Err(refusal) => Err(refusal),
+    }
+}
+
+// A field's call, and what is to be said of it.
+fn step(run: &mut Run, field: Field) -> Result<Option<Values>, Refusal>
+    ensures { record { run = run.new; reply = result } ≡ step_of run.old field }
+{
+    match field {
+        Field::Rate(rate) => make(run, rate),
+        Field::Configure(config) => {
+            script_steps::answered(engine::configure(&mut run.engine, config))
+        }
+        Field::Source(slot, frequency_hz, strength, eligible) => {
+            let source = Source {
+                frequency_hz,
+                strength,
+                eligible,
+            };
+            script_steps::answered(engine::set_source(&mut run.engine, slot as usize, source))
+        }
+        Field::Retire(slot) => {
+            script_steps::answered(engine::retire_source(&mut run.engine, slot as usize))
+        }
+        Field::Release(slot) => {
+            script_steps::answered(engine::release_source(&mut run.engine, slot as usize))
+        }
+        Field::Trigger(slot) => {
+            script_steps::answered(engine::trigger(&mut run.engine, slot as usize))
+        }
+        Field::Seek(cycles) => {
+            engine::seek(&mut run.engine, cycles);
+            Ok(None)
+        }
+        Field::Advance(samples) => {
+            script_steps::answered(engine::advance(&mut run.engine, samples as u64))
+        }
+        Field::Frame(bin_hz, elapsed) => show(run, bin_hz, elapsed),
+        Field::NoteInput(present) => {
+            engine::set_note_input_present(&mut run.engine, present);
+            Ok(None)
+        }
+        Field::Reset => {
+            engine::reset(&mut run.engine);
+            Ok(None)
+        }
+        Field::Reserve => {
+            engine::reserve_trigger(&mut run.engine);
+            Ok(None)
+        }
+        Field::ReservedTrigger(slot, index) => {
+            script_steps::answered(engine::trigger_reserved(&mut run.engine, slot as usize, index))
+        }
+    }
+}
+
+// Field n stands at `at`. One turn after the other, as far as is asked for.
 fn take_turns(until: Until, run: Run, n: u64, at: usize, script: &[u8]) -> Reached
     requires { at ≤ length script.now }
     ensures { result ≡ reached_of until run n at script.now }
 {
-    let mut engine = run.engine;
-    let mut frame = run.frame;
+    let mut run = run;
     let mut n = n;
     let mut at = at;
     loop {
         let read = script::read_field(&script[at..], n == 1);
         match read {
             Ok(Some((field, k))) => {
-                let mut reply = Ok(None);
-                match field {
-                    Field::Rate(rate) => {
-                        let done = engine::new_engine(rate);
-                        let answer = done.answer;
-                        engine = done.engine;
-                        reply = script_steps::answered(answer);
-                    }
-                    Field::Configure(config) => {
-                        let done = engine::configure(engine, config);
-                        let answer = done.answer;
-                        engine = done.engine;
-                        reply = script_steps::answered(answer);
-                    }
-                    Field::Source(slot, frequency_hz, strength, eligible) => {
-                        let source = Source {
-                            frequency_hz,
-                            strength,
-                            eligible,
-                        };
-                        let done = engine::set_source(engine, slot as usize, source);
-                        let answer = done.answer;
-                        engine = done.engine;
-                        reply = script_steps::answered(answer);
-                    }
-                    Field::Retire(slot) => {
-                        let done = engine::retire_source(engine, slot as usize);
-                        let answer = done.answer;
-                        engine = done.engine;
-                        reply = script_steps::answered(answer);
-                    }
-                    Field::Release(slot) => {
-                        let done = engine::release_source(engine, slot as usize);
-                        let answer = done.answer;
-                        engine = done.engine;
-                        reply = script_steps::answered(answer);
-                    }
-                    Field::Trigger(slot) => {
-                        let triggered = engine::trigger(engine, slot as usize);
-                        let outcome = triggered.outcome;
-                        engine = triggered.engine;
-                        reply = script_steps::answered(outcome);
-                    }
-                    Field::Seek(cycles) => {
-                        engine = engine::seek(engine, cycles);
-                    }
-                    Field::Advance(samples) => {
-                        let done = engine::advance(engine, samples as u64);
-                        let answer = done.answer;
-                        engine = done.engine;
-                        reply = script_steps::answered(answer);
-                    }
-                    Field::Frame(bin_hz, elapsed) => {
-                        let framed = frame::take_frame(engine, bin_hz, elapsed);
-                        let answer = framed.answer;
-                        engine = framed.engine;
-                        match answer {
-                            Ok(()) => {
-                                frame = framed.frame;
-                                let values = script_steps::values_of(engine, frame.activity);
-                                reply = Ok(Some(values));
-                            }
-                            Err(refusal) => {
-                                reply = Err(refusal);
-                            }
-                        }
-                    }
-                    Field::NoteInput(present) => {
-                        engine = engine::set_note_input_present(engine, present);
-                    }
-                    Field::Reset => {
-                        engine = engine::reset(engine);
-                    }
-                    Field::Reserve => {
-                        let reserved = engine::reserve_trigger(engine);
-                        engine = reserved.engine;
-                    }
-                    Field::ReservedTrigger(slot, index) => {
-                        let triggered = engine::trigger_reserved(engine, slot as usize, index);
-                        let outcome = triggered.outcome;
-                        engine = triggered.engine;
-                        reply = script_steps::answered(outcome);
-                    }
-                }
+                let reply = step(&mut run, field);
                 let said = replied(n, at, k, reply);
-                let line = said.line;
-                let taken = said.taken;
-                if goes_on(until, line, taken) {
-                    at = at + taken;
+                if goes_on(until, said.line, said.taken) {
+                    at = at + said.taken;
                     n = n.wrapping_add(1);
                 } else {
-                    let run = Run { engine, frame };
-                    return reach(told(run, line, taken), n, at);
+                    return reach(told(run, said.line, said.taken), n, at);
                 }
             }
             Err(refusal) => {
-                let run = Run { engine, frame };
                 let place = bad_place(refusal, at, script);
                 return reach(told(run, Line::Bad(n, refusal, place), 0), n, at);
             }
             Ok(None) => {
-                let run = Run { engine, frame };
                 return reach(told(run, Line::End(before(n)), 0), n, at);
             }
         }

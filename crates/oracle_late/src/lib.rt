@@ -9,24 +9,16 @@ ghost use Rattle.oracle_late.specs.Late.{counted_of, run_after, text_late, print
 use listing::Line;
 use refusals::Refusal;
 use script_steps::Run;
-use state::Clock;
 
 // A new engine has counted 0.
 fn counted(run: Run, start: u64) -> Run
     ensures { result ≡ counted_of start run }
 {
-    if start == 0 {
-        return run;
+    let mut out = run;
+    if start != 0 {
+        out.engine.clock.sample = start;
     }
-    let frame = run.frame;
-    let mut engine = run.engine;
-    let clock = Clock {
-        sample: start,
-        phase: engine.clock.phase,
-        phase_offset: engine.clock.phase_offset,
-    };
-    engine.clock = clock;
-    Run { engine, frame }
+    out
 }
 
 // The run after field n.

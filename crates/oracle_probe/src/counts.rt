@@ -10,14 +10,14 @@ fn sounding_engine() -> Engine
     ensures { result ≡ sounding }
 {
     let done = engine::new_engine(48000.0);
-    let new = done.engine;
+    let mut engine = done.engine;
     let source = Source {
         frequency_hz: 440.0,
         strength: 1.0,
         eligible: true,
     };
-    let set = engine::set_source(new, 0, source);
-    set.engine
+    let _ = engine::set_source(&mut engine, 0, source);
+    engine
 }
 
 // The sum of the answers after each of so many triggers; 0 where none is asked for, so that two times
@@ -29,10 +29,9 @@ pub extern "C" fn rk_probe_active_counts(events: u64, asked: bool) -> u64
     let mut engine = sounding_engine();
     let mut sum: u64 = 0;
     for _ in 0..events {
-        let triggered = engine::trigger(engine, 0);
-        engine = triggered.engine;
+        let _ = engine::trigger(&mut engine, 0);
         if asked {
-            sum = sum.wrapping_add(engine::active_count(engine) as u64);
+            sum = sum.wrapping_add(engine::active_count(&engine) as u64);
         }
     }
     sum

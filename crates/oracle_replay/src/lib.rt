@@ -8,7 +8,7 @@ ghost use Rattle.listing.specs.Listed.{listed_of, left_in};
 ghost use Rattle.oracle_late.specs.Late.{listed_late, left_late};
 ghost use Rattle.oracle_replay.specs.Replay.{count_of, outcome_byte, trigger_of, answer_byte, left_by, left_from, handed_count, handed_in};
 
-use engine::{Outcome, Triggered};
+use engine::Outcome;
 use refusals::Refusal;
 use script::Field;
 use script_steps::Run;
@@ -42,11 +42,10 @@ pub extern "C" fn rk_probe_listing_from(start: u64, script: &[u8], out: &mut [u8
     count(oracle_late::list_script_from(start, script, out))
 }
 
-fn outcome(triggered: Triggered) -> u8
-    ensures { result ≡ outcome_byte triggered.outcome }
+fn outcome(fired: Result<Outcome, Refusal>) -> u8
+    ensures { result ≡ outcome_byte fired }
 {
-    let outcome = triggered.outcome;
-    match outcome {
+    match fired {
         Ok(Outcome::Born) => 1,
         Ok(Outcome::NotEligible) => 2,
         Ok(Outcome::Dropped) => 3,
@@ -58,13 +57,14 @@ fn outcome(triggered: Triggered) -> u8
 fn trigger(run: Run, field: Field) -> u8
     ensures { result ≡ trigger_of run field }
 {
+    let mut engine = run.engine;
     match field {
         Field::Rate(_) => 0,
         Field::Configure(_) => 0,
         Field::Source(_, _, _, _) => 0,
         Field::Retire(_) => 0,
         Field::Release(_) => 0,
-        Field::Trigger(slot) => outcome(engine::trigger(run.engine, slot as usize)),
+        Field::Trigger(slot) => outcome(engine::trigger(&mut engine, slot as usize)),
         Field::Seek(_) => 0,
         Field::Advance(_) => 0,
         Field::Frame(_, _) => 0,
@@ -72,7 +72,7 @@ fn trigger(run: Run, field: Field) -> u8
         Field::Reset => 0,
         Field::Reserve => 0,
         Field::ReservedTrigger(slot, index) => {
-            outcome(engine::trigger_reserved(run.engine, slot as usize, index))
+            outcome(engine::trigger_reserved(&mut engine, slot as usize, index))
         }
     }
 }

@@ -33,9 +33,8 @@ pub fn fresh() -> Run
     ensures { result ≡ Steps.fresh }
 {
     let made = engine::new_engine(48000.0);
-    let engine = made.engine;
     Run {
-        engine,
+        engine: made.engine,
         frame: Frame::default(),
     }
 }

@@ -29,8 +29,8 @@ fn milliseconds(samples: u64, rate: f32) -> u64
     }
 }
 
-pub fn values_of(engine: Engine, activity: f32) -> Values
-    ensures { result ≡ values_of engine activity }
+pub fn values_of(engine: &Engine, activity: f32) -> Values
+    ensures { result ≡ values_of engine.now activity }
 {
     let sample = engine::elapsed_samples(engine);
     Values {

@@ -1,4 +1,5 @@
-// The engine's state: a value that goes into a call and comes back, in groups of what changes together.
+// The engine's state, in groups of what changes together. Each call is lent it, and changes it where it
+// stands.
 #![tactic(auto)]
 
 ghost use Rattle.std.specs.Prelude.{◌≡◌};
@@ -66,8 +67,9 @@ pub struct Engine {
     pub activity: f32,
 }
 
-// What a call answers, beside the engine after it, which stands first: behind a small enum its copies
-// would begin at an odd place.
+// What the definitions have of a call: the engine after it, and what it answers. A new engine is handed
+// out so, refused or not. The engine stands first: behind a small enum its copies would begin at an odd
+// place.
 #[derive(Clone, Copy)]
 pub struct Done {
     pub engine: Engine,

@@ -4,4 +4,4 @@ use Rattle.engine_changes.proofs.align_streams.Goals as goal
 
 pub returns : goal.returns
 unfolding aligned
-returns c = rw c.align_streams-streams.ensures
+returns c = rw c.align_streams-engine.ensures

@@ -6,8 +6,8 @@ use Rattle.engine_changes.proofs.offset.Goals as goal
 
 pub returns-then-engine-eq0 : goal.returns-then-engine-eq0
 unfolding offset
-returns-then-engine-eq0 c = took _ _ _ _ (eq-eqb _ _ c.if-engine-eq0.true) (rw c.from-to.ensures)
+returns-then-engine-eq0 c = took _ _ _ _ (eq-eqb _ _ c.if-engine-eq0.true) (rw c.from-engine.ensures)
 
-pub returns : goal.returns
+pub returns-else-engine-eq0 : goal.returns-else-engine-eq0
 unfolding offset
-returns c = skipped _ _ _ _ (ne_eqb _ _ c.if-engine-eq0.false) refl
+returns-else-engine-eq0 c = skipped _ _ _ _ (ne_eqb _ _ c.if-engine-eq0.false) refl

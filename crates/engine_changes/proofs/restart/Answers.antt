@@ -1,5 +1,6 @@
 -- `restart` meets its contract: one test after the other.
 use Rattle.std.proofs.Common.{sym, refl, ap, ◌∙◌}
+use Rattle.std.proofs.lemmas.Bool.{not-true, not-false}
 use Rattle.sequences.specs.Pick.{took, skipped}
 use Rattle.engine_changes.specs.Changes.{restarted}
 use Rattle.sources.proofs.Flags.{flags}
@@ -12,8 +13,8 @@ returns-then-enters_sprinkle c = took _ _ _ _ (sym c.enters_sprinkle.ensures ∙
 
 pub returns-then-before-after : goal.returns-then-before-after
 unfolding restarted
-returns-then-before-after c = skipped _ _ _ _ (sym c.enters_sprinkle.ensures ∙ c.if-enters_sprinkle.false) (took _ _ _ _ (flags _ _ ∙ c.if-before-after.true) refl)
+returns-then-before-after c = skipped _ _ _ _ (sym c.enters_sprinkle.ensures ∙ c.if-enters_sprinkle.false) (skipped _ _ _ _ (flags _ _ ∙ not-true _ c.if-before-after.true) (ap (with_streams c.args.engine.now) c.prepare_streams-engine.ensures))
 
-pub returns : goal.returns
+pub returns-else-before-after : goal.returns-else-before-after
 unfolding restarted
-returns c = skipped _ _ _ _ (sym c.enters_sprinkle.ensures ∙ c.if-enters_sprinkle.false) (skipped _ _ _ _ (flags _ _ ∙ c.if-before-after.false) (ap (with_streams c.args.engine) c.prepare_streams-prepared.ensures))
+returns-else-before-after c = skipped _ _ _ _ (sym c.enters_sprinkle.ensures ∙ c.if-enters_sprinkle.false) (took _ _ _ _ (flags _ _ ∙ not-false _ c.if-before-after.false) refl)

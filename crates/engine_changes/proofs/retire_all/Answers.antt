@@ -4,4 +4,4 @@ use Rattle.engine_changes.proofs.retire_all.Goals as goal
 
 pub returns : goal.returns
 unfolding retired_all
-returns c = rw c.retire_all-retired.ensures
+returns c = rw c.retire_all-engine.ensures

@@ -4,10 +4,10 @@ use Rattle.sequences.specs.Pick.{took, skipped}
 use Rattle.engine_changes.specs.Changes.{switched}
 use Rattle.engine_changes.proofs.switch.Goals as goal
 
-pub returns-then-same_kind : goal.returns-then-same_kind
+pub returns-then-not-same_kind : goal.returns-then-not-same_kind
 unfolding switched
-returns-then-same_kind c = took _ _ _ _ (sym c.same_kind.ensures ∙ c.if-same_kind.true) refl
+returns-then-not-same_kind c = skipped _ _ _ _ (sym c.same_kind.ensures ∙ c.if-not-same_kind.true) c.retire_all.ensures
 
-pub returns : goal.returns
+pub returns-else-not-same_kind : goal.returns-else-not-same_kind
 unfolding switched
-returns c = skipped _ _ _ _ (sym c.same_kind.ensures ∙ c.if-same_kind.false) c.retire_all.ensures
+returns-else-not-same_kind c = took _ _ _ _ (sym c.same_kind.ensures ∙ c.if-not-same_kind.false) refl

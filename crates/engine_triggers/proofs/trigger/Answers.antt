@@ -1,7 +1,10 @@
 -- `trigger` meets its contract: one index is used, then the trigger.
-use Rattle.engine_triggers.specs.Triggers.{reserved_of, triggered_of}
+use Rattle.engine_triggers.specs.Triggers.{triggered_of}
 use Rattle.engine_triggers.proofs.trigger.Goals as goal
 
 pub returns : goal.returns
-unfolding triggered_of reserved_of
-returns c = c.fire.ensures
+unfolding triggered_of
+returns c =
+    let r = c.reserve_trigger-index.ensures in
+    let t = c.trigger_reserved.ensures in
+    record { outcome = rw (t.outcome, r.engine, r.index); engine = rw (t.engine, r.engine, r.index) }

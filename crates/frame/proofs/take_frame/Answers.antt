@@ -1,13 +1,21 @@
 -- `take_frame` meets its contract: one test, and refusal 7 where it fails.
-use Rattle.std.proofs.Common.{sym, ◌∙◌}
-use Rattle.sequences.specs.Pick.{took, skipped}
-use Rattle.frame.specs.Call.{framed_of}
+use Rattle.std.proofs.Common.{◌≡◌, Ok, sym, ap, ◌∙◌}
+use Rattle.sequences.specs.Pick.{picked, passed}
+use Rattle.windows.specs.declared.Frame.{Frame}
+use Rattle.frame.specs.declared.Framed.{Framed}
+use Rattle.frame.specs.Call.{taken_of, refused_of, framed_of, shown_by}
 use Rattle.frame.proofs.take_frame.Goals as goal
 
-pub returns-then-accepts : goal.returns-then-accepts
-unfolding framed_of
-returns-then-accepts c = took _ _ _ _ (sym c.accepts.ensures ∙ c.if-accepts.true) c.taken.ensures
+pub returns-then-not-accepts : goal.returns-then-not-accepts
+unfolding framed_of refused_of
+returns-then-not-accepts c =
+    let a = c.args in
+    let f : refused_of a.engine.now ≡ framed_of a.engine.now a.bin_hz a.elapsed_seconds = passed _ _ _ (sym c.accepts.ensures ∙ c.if-not-accepts.true) in
+    record { answer = ap shown_by f; engine = ap (λ (x : Framed). x.engine) f }
 
 pub returns : goal.returns
-unfolding framed_of
-returns c = skipped _ _ _ _ (sym c.accepts.ensures ∙ c.if-accepts.false) c.refused.ensures
+unfolding framed_of taken_of
+returns c =
+    let a = c.args in
+    let f : taken_of a.engine.now a.bin_hz a.elapsed_seconds ≡ framed_of a.engine.now a.bin_hz a.elapsed_seconds = picked _ _ _ (sym c.accepts.ensures ∙ c.if-not-accepts.false) in
+    record { answer = ap (λ (x : Frame). Ok x) c.take.ensures.frame ∙ ap shown_by f; engine = c.take.ensures.engine ∙ ap (λ (x : Framed). x.engine) f }

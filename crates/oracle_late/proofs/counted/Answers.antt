@@ -4,10 +4,10 @@ use Rattle.sequences.specs.Pick.{pick}
 use Rattle.oracle_late.specs.Late.{counted_of}
 use Rattle.oracle_late.proofs.counted.Goals as goal
 
-pub returns-then-start-eq0 : goal.returns-then-start-eq0
+pub returns-else-start-ne0 : goal.returns-else-start-ne0
 unfolding counted_of pick
-returns-then-start-eq0 c = rw (eq-eqb _ _ c.if-start-eq0.true)
+returns-else-start-ne0 c = rw (eq-eqb _ _ c.if-start-ne0.false)
 
-pub returns : goal.returns
+pub returns-then-start-ne0 : goal.returns-then-start-ne0
 unfolding counted_of pick
-returns c = rw (ne_eqb _ _ c.if-start-eq0.false)
+returns-then-start-ne0 c = rw (ne_eqb _ _ c.if-start-ne0.true)

@@ -24,7 +24,7 @@ returns-in-Release c = rw c.in-Release.is
 
 pub returns-in-Trigger : goal.returns-in-Trigger
 unfolding trigger_of
-returns-in-Trigger c = rw (c.in-Trigger.is, c.outcome.ensures, c.trigger.ensures)
+returns-in-Trigger c = rw (c.in-Trigger.is, c.outcome.ensures, c.trigger.ensures.outcome)
 
 pub returns-in-Seek : goal.returns-in-Seek
 unfolding trigger_of
@@ -52,4 +52,4 @@ returns-in-Reserve c = rw c.in-Reserve.is
 
 pub returns-in-ReservedTrigger : goal.returns-in-ReservedTrigger
 unfolding trigger_of
-returns-in-ReservedTrigger c = rw (c.in-ReservedTrigger.is, c.outcome-in-ReservedTrigger.ensures, c.trigger_reserved.ensures)
+returns-in-ReservedTrigger c = rw (c.in-ReservedTrigger.is, c.outcome-in-ReservedTrigger.ensures, c.trigger_reserved.ensures.outcome)

@@ -9,8 +9,8 @@ use Rattle.engine.proofs.make.new_engine.Goals as goal
 
 pub returns-then-lawful_rate : goal.returns-then-lawful_rate
 unfolding new_engine_of
-returns-then-lawful_rate c = took _ _ _ _ (sym c.lawful_rate.ensures ∙ c.if-lawful_rate.true) (ap taken (c.from_prepared.ensures ∙ ap new_on c.prepare.ensures))
+returns-then-lawful_rate c = took _ _ _ _ (sym c.lawful_rate.ensures ∙ c.if-lawful_rate.true) (c.take.ensures ∙ ap taken (c.from_prepared.ensures ∙ ap new_on c.prepare.ensures))
 
 pub returns : goal.returns
 unfolding new_engine_of
-returns c = skipped _ _ _ _ (sym c.lawful_rate.ensures ∙ c.if-lawful_rate.false) (ap (refused Rate) (c.from_prepared-2.ensures ∙ ap new_on c.prepare-2.ensures))
+returns c = skipped _ _ _ _ (sym c.lawful_rate.ensures ∙ c.if-lawful_rate.false) (c.refuse.ensures ∙ ap (refused Rate) (c.from_prepared-engine.ensures ∙ ap new_on c.prepare-2.ensures))

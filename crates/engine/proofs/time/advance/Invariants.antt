@@ -6,7 +6,7 @@ use Rattle.engine_samples.specs.Sample.{stepped_of}
 use Rattle.engine.proofs.time.advance.Given as goal
 
 abbrev pub invariant-loop-i : goal.invariant-loop-i
-invariant-loop-i l = (l.i ≤ l.samples) × (l.out ≡ iterate stepped_of l.i l.initial.out)
+invariant-loop-i l = (l.i ≤ l.samples) × (l.engine ≡ iterate stepped_of l.i l.initial.engine)
 
 abbrev pub decreases-loop-i : goal.decreases-loop-i
 decreases-loop-i l = l.samples - l.i

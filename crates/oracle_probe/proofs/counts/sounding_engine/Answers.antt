@@ -4,4 +4,4 @@ use Rattle.oracle_probe.proofs.counts.sounding_engine.Goals as goal
 
 pub returns : goal.returns
 unfolding sounding
-returns c = rw (c.set_source-set.ensures, c.new_engine-done.ensures)
+returns c = rw (c.set_source.ensures.engine, c.new_engine-done.ensures)

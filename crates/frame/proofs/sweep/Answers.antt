@@ -1,5 +1,4 @@
--- `taken` meets its contract: one pass that frees in place, counts what it frees and shows beside it, and
--- the callees' answers, put together.
+-- `sweep` meets its contract: one pass that frees in place, counts what it frees and shows beside it.
 use Rattle.std.proofs.Common.{◌+◌, List, set, sym, ap, ◌∙◌, subst, rules}
 use Rattle.std.proofs.lemmas.List.{set-get_or}
 use Rattle.pool.specs.declared.Particle.{Particle}
@@ -10,9 +9,8 @@ use Rattle.frame.specs.Freed.{is_freed, sweep_one}
 use Rattle.frame.specs.Shown.{shown_of}
 use Rattle.frame.proofs.Pass.{Pass, pass_none, pass_read, pass_changed, pass_kept, pass_held, pass_shown}
 use Rattle.frame.proofs.Swept.{due-is-freed, other_stays, free-shows-nothing}
-use Rattle.frame.specs.Call.{held_of, freed_of, windows_by, renewed_of, taken_of}
-use Rattle.frame.proofs.taken.Goals as goal
-use Rattle.frame.proofs.taken.Goals.{then-freed, else-freed}
+use Rattle.frame.proofs.sweep.Goals as goal
+use Rattle.frame.proofs.sweep.Goals.{then-freed, else-freed}
 
 pub loop-i-init : goal.loop-i-init
 loop-i-init c = (pass_none _ _ _ 64 _ _ (search rules) (search rules), walked_none _ 64 _ 0 (search rules), search rules)
@@ -20,32 +18,32 @@ loop-i-init c = (pass_none _ _ _ 64 _ _ (search rules) (search rules), walked_no
 pub loop-i-preserved : goal.loop-i-preserved
 loop-i-preserved c =
     let inv = c.loop-i.invariant in
-    let now = c.args.engine.clock.sample in
-    let rate = c.args.engine.prepared.sample_rate in
+    let now = c.args.sample in
+    let rate = c.args.rate in
     let m = inv.0 in
-    let free = c.default-free.ensures in
     let freed = c.freed.ensures in
     elim c.if-freed.branch [
       | then-freed w ↦
-          rw (w.p-items-is, w.shown-is) (
+          let free = w.default.ensures in
+          rw (w.particles-is, w.shown-is) (
             pass_changed _ _ _ 64 _ _ _ _ m _ _ _ (search rules) (free ∙ due-is-freed _ _ _ (sym freed ∙ w.if-freed.true))
-                (c.nothing_shown-nothing.ensures ∙ free-shows-nothing _ _ ∙ ap (shown_of _ _) (sym free)),
+                (w.nothing_shown.ensures ∙ free-shows-nothing _ _ ∙ ap (shown_of _ _) (sym free)),
             walked_more inv.1 _ _ (search rules) (w.freed-is ∙ picked _ _ _ (sym (ap (is_freed _ _ 0) (pass_read _ _ _ 64 _ _ _ _ m _)) ∙ sym freed ∙ w.if-freed.true)),
             search rules,
           )
       | else-freed w ↦
-          rw (w.p-items-is, w.shown-is) (
-            subst (λ (held : List Particle). Pass (sweep_one now rate) (shown_of now rate) free_particle 64 c.args.particles (c.loop-i.i + 1) held (set c.loop-i.shown c.loop-i.i w.show.result))
-                (sym (set-get_or c.loop-i.p-items c.loop-i.i _)) (pass_kept _ _ _ 64 _ _ _ _ m _ _ (search rules) (other_stays _ _ _ (sym freed ∙ w.if-freed.false)) w.show.ensures),
+          rw (w.particles-is, w.shown-is) (
+            subst (λ (held : List Particle). Pass (sweep_one now rate) (shown_of now rate) free_particle 64 c.args.particles.now (c.loop-i.i + 1) held (set c.loop-i.shown c.loop-i.i w.show.result))
+                (sym (set-get_or c.loop-i.particles c.loop-i.i _)) (pass_kept _ _ _ 64 _ _ _ _ m _ _ (search rules) (other_stays _ _ _ (sym freed ∙ w.if-freed.false)) w.show.ensures),
             walked_more inv.1 _ _ (search rules) (w.freed-is ∙ passed _ _ _ (sym (ap (is_freed _ _ 0) (pass_read _ _ _ 64 _ _ _ _ m _)) ∙ sym freed ∙ w.if-freed.false)),
             search rules,
           )
     ]
 
 pub returns : goal.returns
-unfolding taken_of windows_by held_of freed_of renewed_of
 returns c =
     let inv = c.loop-i.invariant in
     let m = inv.0 in
     let all = c.loop-i-test.false in
-    rw (c.renewed-engine.ensures, c.activity-activity.ensures, c.windows-windows.ensures, c.max_hz.ensures, pass_shown _ _ _ 64 _ _ _ _ m all, pass_held _ _ _ 64 _ _ _ _ m all, walked_all inv.1 all)
+    let held = pass_held _ _ _ 64 _ _ _ _ m all in
+    record { freed = walked_all inv.1 all; held = held; shown = rw held (pass_shown _ _ _ 64 _ _ _ _ m all) }
