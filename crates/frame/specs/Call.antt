@@ -1,5 +1,5 @@
 -- The call `frame` on the engine, line by line as the Rust's, with 01's refusal. Definitions only.
-use Rattle.std.specs.Prelude.{ℕ, List, map, Float, Result, Ok, Err}
+use Rattle.std.specs.Prelude.{ℕ, List, map, Float, Ok, Err}
 use Rattle.sequences.specs.Pick.{pick}
 use Rattle.sequences.specs.Walk.{count}
 use Rattle.floats.specs.Word.{difference}
@@ -8,12 +8,11 @@ use Rattle.state.specs.declared.Engine.{Engine}
 use Rattle.state.specs.declared.Tally.{Tally}
 use Rattle.state.specs.State.{with_particles, with_tally}
 use Rattle.pool.specs.declared.Particle.{Particle}
-use Rattle.refusals.specs.declared.Refusal.{Refusal}
-use Rattle.refusals.specs.declared.Refusal.TheVariants.{Seconds}
 use Rattle.refusals.specs.Numbers.{Answer}
-use Rattle.windows.specs.declared.Frame.{Frame}
+use Rattle.refusals.specs.declared.Refusal.TheVariants.{Seconds}
 use Rattle.windows.specs.declared.Window.{Window}
 use Rattle.windows.specs.Opening.{empty_frame}
+use Rattle.windows.specs.declared.Frame.{Frame}
 use Rattle.frame.specs.declared.Framed.{Framed}
 use Rattle.frame.specs.Freed.{is_freed, sweep_one}
 use Rattle.frame.specs.Shown.{shown_of}
@@ -78,10 +77,6 @@ refused_of e = record { answer = Err Seconds; frame = empty_frame; engine = e }
 unfoldable pub framed_of : Engine → Float → Float → Framed
 framed_of e bin_hz seconds = pick (accepted seconds) (taken_of e bin_hz seconds) (refused_of e)
 
--- what the call answers: the frame, or its refusal
-abbrev pub answer_with : Frame → Answer → Result Frame Refusal
-answer_with f (Ok tt) = Ok f
-answer_with f (Err r) = Err r
-
-abbrev pub shown_by : Framed → Result Frame Refusal
-shown_by f = answer_with f.frame f.answer
+-- what the call answers: the frame, and whether it was taken
+abbrev pub shown_by : Framed → Frame × Answer
+shown_by f = (f.frame, f.answer)

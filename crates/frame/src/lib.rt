@@ -101,13 +101,18 @@ fn take(engine: &mut Engine, bin_hz: f32, elapsed_seconds: f32) -> Frame
     Frame { windows, activity }
 }
 
-// Evaluated once at the spectral boundary; it renews the attempts.
-pub fn take_frame(engine: &mut Engine, bin_hz: f32, elapsed_seconds: f32) -> Result<Frame, Refusal>
+// Evaluated once at the spectral boundary; it renews the attempts. The frame stands beside the answer and
+// not in its `Ok`, since 01 has refusal 7 answer an empty one.
+pub fn take_frame(
+    engine: &mut Engine,
+    bin_hz: f32,
+    elapsed_seconds: f32,
+) -> (Frame, Result<(), Refusal>)
     ensures answer { result ≡ shown_by (framed_of engine.old bin_hz elapsed_seconds) }
     ensures engine { engine.new ≡ (framed_of engine.old bin_hz elapsed_seconds).engine }
 {
     if !accepts(elapsed_seconds) {
-        return Err(Refusal::Seconds);
+        return (Frame::default(), Err(Refusal::Seconds));
     }
-    Ok(take(engine, bin_hz, elapsed_seconds))
+    (take(engine, bin_hz, elapsed_seconds), Ok(()))
 }

@@ -1,20 +1,18 @@
 -- One field's turn from what its call left: the run and the reply.
-use Rattle.std.proofs.Common.{◌≡◌, ℕ, eqb, List, drop, sym, refl, ap, ◌∙◌, Some, Result, Ok, Err}
+use Rattle.std.proofs.Common.{◌≡◌, ℕ, eqb, List, drop, sym, ap, ◌∙◌, Some, Ok}
 use Rattle.refusals.specs.Numbers.{Answer}
-use Rattle.refusals.specs.declared.Refusal.{Refusal}
 use Rattle.engine_triggers.specs.Triggers.{Fired}
 use Rattle.engine_triggers.specs.declared.Triggered.{Triggered}
 use Rattle.state.specs.declared.Done.{Done}
 use Rattle.state.specs.declared.Engine.{Engine}
 use Rattle.windows.specs.declared.Frame.{Frame}
 use Rattle.frame.specs.declared.Framed.{Framed}
-use Rattle.frame.specs.Call.{answer_with, shown_by}
 use Rattle.script.specs.declared.fields.Field.{Field}
 use Rattle.script.specs.Field.{Read, read_of}
 use Rattle.script_steps.specs.Replies.{Reply, reply_of}
 use Rattle.script_steps.specs.declared.Run.{Run}
 use Rattle.script_steps.specs.declared.Stepped.{Stepped}
-use Rattle.script_steps.specs.Steps.{with_engine, done_of, fired_of, refused_step, shown_step, framed_step, frame_step_of, step_of}
+use Rattle.script_steps.specs.Steps.{with_engine, done_of, fired_of, framed_step, frame_step_of, step_of}
 use Rattle.script_steps.proofs.Together.{answered-is, outcome-is}
 use Rattle.listing.specs.declared.turns.Said.{Said}
 use Rattle.listing.specs.Saying.{said_of}
@@ -23,15 +21,6 @@ use Rattle.listing.proofs.TurnLaws.{said_as}
 
 abbrev pub left : Run → Reply → Stepped
 left run r = record { run = run; reply = r }
-
--- what a frame's call answered, with the engine after it
-abbrev pub framed_as : Run → Engine → Result Frame Refusal → Stepped
-framed_as run e (Ok f) = shown_step e f
-framed_as run e (Err r) = refused_step run e r
-
-frame-told : (run : Run) (e : Engine) (f : Frame) (a : Answer) → framed_as run e (answer_with f a) ≡ frame_step_of run e f a
-frame-told run e f (Ok tt) = refl
-frame-told run e f (Err r) = refl
 
 module _ (run : Run) (e : Engine) where
   module _ (r : Reply) where
@@ -49,11 +38,11 @@ module _ (run : Run) (e : Engine) where
         ∙ outcome-is run t.engine t.outcome
 
   -- a frame's call
-  pub by-frame : (g : Framed) (a : Result Frame Refusal) → a ≡ shown_by g → e ≡ g.engine → framed_as run e a ≡ framed_step run g
-  by-frame g a p q =
-      ap (framed_as run e) p
-      ∙ ap (λ (x : Engine). framed_as run x (shown_by g)) q
-      ∙ frame-told run g.engine g.frame g.answer
+  pub by-frame : (g : Framed) (f : Frame) (a : Answer) → f ≡ g.frame → a ≡ g.answer → e ≡ g.engine → frame_step_of run e f a ≡ framed_step run g
+  by-frame g f a p q r =
+      ap (λ (x : Frame). frame_step_of run e x a) p
+      ∙ ap (frame_step_of run e g.frame) q
+      ∙ ap (λ (x : Engine). frame_step_of run x g.frame g.answer) r
 
 -- ---- the turn
 module _ (run : Run) (n at : ℕ) (s : List ℕ) (read : Read) (is : read ≡ read_of (drop at s) (eqb n 1)) where

@@ -163,8 +163,9 @@ fn make(run: &mut Run, rate: f32) -> Result<Option<Values>, Refusal>
 fn show(run: &mut Run, bin_hz: f32, elapsed: f32) -> Result<Option<Values>, Refusal>
     ensures { record { run = run.new; reply = result } ≡ framed_step run.old (framed_of run.old.engine bin_hz elapsed) }
 {
-    match frame::take_frame(&mut run.engine, bin_hz, elapsed) {
-        Ok(frame) => {
+    let (frame, answer) = frame::take_frame(&mut run.engine, bin_hz, elapsed);
+    match answer {
+        Ok(()) => {
             run.frame = frame;
             Ok(Some(script_steps::values_of(&run.engine, run.frame.activity)))
         }
