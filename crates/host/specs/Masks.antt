@@ -1,11 +1,11 @@
 -- What a host sees of a script's mask file. Definitions only.
 use Rattle.std.specs.Prelude.{ℕ, List, Float}
-use Rattle.script_writer.specs.Written.{count_of}
+use Rattle.std.specs.Result.{result_unwrap_or}
 use Rattle.mask_files.specs.Masks.{Filed, filed_number, masks_of}
 
 -- a refusal leaves the count as it was
 abbrev pub place_by : ℕ → Filed → ℕ
-place_by at filed = count_of at filed
+place_by at filed = result_unwrap_or filed at
 
 -- the number of the answer, the buffer, and the count behind its reference
 abbrev pub masks_at : List ℕ → ℕ → Float → List ℕ → ℕ → ℕ × List ℕ × ℕ

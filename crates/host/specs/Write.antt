@@ -4,7 +4,7 @@ use Rattle.text.specs.Put.{buffer_of}
 use Rattle.refusals.specs.Numbers.{answer_of}
 use Rattle.script.specs.declared.fields.Field.{Field}
 use Rattle.script_writer.specs.Encoded.{encoded}
-use Rattle.script_writer.specs.Written.{written_of, count_of}
+use Rattle.script_writer.specs.Written.{written_of}
 use Rattle.settings.specs.declared.Config.{Config}
 use Rattle.settings.specs.ByNumber.{shape_from, direction_from}
 
@@ -30,4 +30,4 @@ config_from enabled shape direction rate size phase scheduled sync hop partials 
 abbrev pub written_at : List ℕ → ℕ → Field → ℕ × ℕ × List ℕ
 written_at o at f =
     let w = written_of (length o) at (encoded f) in
-    (answer_of w, count_of at w, buffer_of o at (encoded f))
+    (answer_of w.1, w.0, buffer_of o at (encoded f))

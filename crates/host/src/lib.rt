@@ -8,27 +8,10 @@ ghost use Rattle.powers.specs.Power as Power;
 ghost use Rattle.elementary.specs.Sqrt.{sqrt_of};
 ghost use Rattle.entry.specs.Entry.{entry_answer, entry_bytes};
 ghost use Rattle.refusals.specs.Numbers.{answer_of};
-ghost use Rattle.script_writer.specs.Written.{count_of};
 ghost use Rattle.std.specs.Prelude.{◌≡◌};
-
-use refusals::Refusal;
 
 mod masks;
 mod write;
-
-// What was written ends at a place that goes behind `at`, and a refusal leaves it; the answer, by its
-// number, comes back.
-fn told(written: Result<usize, Refusal>, at: &mut u64) -> u32
-    ensures { (result ≡ answer_of written) × (at.new ≡ count_of at.old written) }
-{
-    match written {
-        Ok(count) => {
-            *at = count as u64;
-            0
-        }
-        Err(refusal) => u64::from(refusal) as u32,
-    }
-}
 
 #[unsafe(no_mangle)]
 pub extern "C" fn rk_log2(x: f32) -> f32

@@ -2,10 +2,20 @@
 // was.
 ghost use Rattle.std.specs.Prelude.{◌≡◌};
 ghost use Rattle.script.specs.declared.fields.Field.TheVariants as F;
+ghost use Rattle.refusals.specs.Numbers.{answer_of};
 ghost use Rattle.host.specs.Write.{config_from, written_at};
 
-use crate::told;
+use refusals::Refusal;
 use settings::{Config, Direction, Shape};
+
+// The count after a write goes behind `at`; the answer, by its number, comes back.
+fn told(written: (usize, Result<(), Refusal>), at: &mut u64) -> u32
+    ensures { (result ≡ answer_of written.1) × (at.new ≡ written.0) }
+{
+    let (count, answer) = written;
+    *at = count as u64;
+    refusals::answer_number(answer) as u32
+}
 
 #[unsafe(no_mangle)]
 pub extern "C" fn rk_write_rate(rate: f32, out: &mut [u8], at: &mut u64) -> u32

@@ -15,7 +15,7 @@ use Rattle.script.proofs.Taken as T
 use Rattle.script.specs.Reading.{onward}
 use Rattle.script.proofs.Steps.{field, wrong, end, onward-reads, only}
 use Rattle.script_writer.specs.Encoded.{encoded}
-use Rattle.script_writer.specs.Written.{written_of, count_of}
+use Rattle.script_writer.specs.Written.{written_of}
 use Rattle.script_writer_laws.specs.Events.{events}
 use Rattle.script_writer_laws.specs.InARow.{count_after, bytes_after}
 use Rattle.oracle_rewrite.specs.Rewritten.{field_in, taken_by}
@@ -24,18 +24,18 @@ use Rattle.oracle_rewrite.specs.Rewritten.{field_in, taken_by}
 count_append : (es fs : List Field) (o : List ℕ) (w : ℕ) → count_after o w (es ++ fs) ≡ count_after (bytes_after o w es) (count_after o w es) fs
 unfolding count_after bytes_after
 count_append [] fs o w = refl
-count_append (e ∷ es) fs o w = count_append es fs (buffer_of o w (encoded e)) (count_of w (written_of (length o) w (encoded e)))
+count_append (e ∷ es) fs o w = count_append es fs (buffer_of o w (encoded e)) (written_of (length o) w (encoded e)).0
 
 bytes_append : (es fs : List Field) (o : List ℕ) (w : ℕ) → bytes_after o w (es ++ fs) ≡ bytes_after (bytes_after o w es) (count_after o w es) fs
 unfolding count_after bytes_after
 bytes_append [] fs o w = refl
-bytes_append (e ∷ es) fs o w = bytes_append es fs (buffer_of o w (encoded e)) (count_of w (written_of (length o) w (encoded e)))
+bytes_append (e ∷ es) fs o w = bytes_append es fs (buffer_of o w (encoded e)) (written_of (length o) w (encoded e)).0
 
 pub bytes_length : (es : List Field) (o : List ℕ) (w : ℕ) → length (bytes_after o w es) ≡ length o
 unfolding bytes_after
 bytes_length [] o w = refl
 bytes_length (e ∷ es) o w =
-    bytes_length es (buffer_of o w (encoded e)) (count_of w (written_of (length o) w (encoded e))) ∙ (piece (refl, refl)).same
+    bytes_length es (buffer_of o w (encoded e)) (written_of (length o) w (encoded e)).0 ∙ (piece (refl, refl)).same
 
 -- ---- the fields of a script from a place on
 module _ (n at : ℕ) (s : List ℕ) where

@@ -24,11 +24,8 @@ fn rewrite_field(script: &[u8], first: bool, out: &mut [u8], at: usize) -> Rewri
     let read = script::read_field(script, first);
     match read {
         Ok(Some((field, taken))) => {
-            let written = script_writer::write_field(field, out, at);
-            Rewritten {
-                taken,
-                count: written.unwrap_or(at),
-            }
+            let (count, _) = script_writer::write_field(field, out, at);
+            Rewritten { taken, count }
         }
         Err(_) => Rewritten {
             taken: 0,

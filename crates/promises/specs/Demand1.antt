@@ -37,7 +37,7 @@ use Rattle.script_steps.specs.declared.Run.{Run}
 use Rattle.script_steps.specs.Steps.{step_of}
 use Rattle.text.specs.Put.{buffer_of}
 use Rattle.script_writer.specs.Encoded.{encoded}
-use Rattle.script_writer.specs.Written.{written_of, count_of}
+use Rattle.script_writer.specs.Written.{written_of}
 use Rattle.listing.specs.Listed.{room_for, listed_of, left_in}
 use Rattle.listing.specs.declared.lines.Line.TheVariants as L
 use Rattle.listing.specs.Turns.{turn_of, turns_of}
@@ -144,6 +144,6 @@ pub record Demand1 : Type 0 where
   pub list : (s o : List ℕ) → listed_number (listed_of (length o) s) ≡ first_of ((ltb (length o) (room_for (length s)), 13) ∷ [])
   pub list_leaves : (s o : List ℕ) → (listed_number (listed_of (length o) s) ≡ 0 → ⊥) → left_in o s ≡ o
   -- an event into a lent buffer that holds `at` bytes: 13 where the free bytes are fewer than it needs; the count so far and the bytes then stay
-  pub write : (f : Field) (o : List ℕ) (at : ℕ) → answer_of (written_of (length o) at (encoded f)) ≡ first_of ((ltb (length o - at) (length (encoded f)), 13) ∷ [])
-  pub write_leaves : (f : Field) (o : List ℕ) (at : ℕ) → (answer_of (written_of (length o) at (encoded f)) ≡ 0 → ⊥)
-      → ((count_of at (written_of (length o) at (encoded f))) ≡ at) × (buffer_of o at (encoded f) ≡ o)
+  pub write : (f : Field) (o : List ℕ) (at : ℕ) → answer_of (written_of (length o) at (encoded f)).1 ≡ first_of ((ltb (length o - at) (length (encoded f)), 13) ∷ [])
+  pub write_leaves : (f : Field) (o : List ℕ) (at : ℕ) → (answer_of (written_of (length o) at (encoded f)).1 ≡ 0 → ⊥)
+      → ((written_of (length o) at (encoded f)).0 ≡ at) × (buffer_of o at (encoded f) ≡ o)

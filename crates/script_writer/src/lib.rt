@@ -21,7 +21,7 @@ pub use events::{
 
 // The field behind the `at` bytes that `out` holds, and how many it holds then. Where it does not fit,
 // nothing is written.
-pub fn write_field(field: Field, out: &mut [u8], at: usize) -> Result<usize, Refusal>
+pub fn write_field(field: Field, out: &mut [u8], at: usize) -> (usize, Result<(), Refusal>)
     ensures { (result ≡ written_of (length out.old) at (encoded field)) × (out.new ≡ buffer_of out.old at (encoded field)) }
 {
     match field {

@@ -17,7 +17,12 @@ fn has_room(has: usize, at: usize, n: usize) -> bool
     n <= has - at
 }
 
-pub fn write_tagged(tag: u8, value: &[u8], out: &mut [u8], at: usize) -> Result<usize, Refusal>
+pub fn write_tagged(
+    tag: u8,
+    value: &[u8],
+    out: &mut [u8],
+    at: usize,
+) -> (usize, Result<(), Refusal>)
     requires { length value.now < 65536 }
     ensures { (result ≡ written_of (length out.old) at (tagged tag value.now)) × (out.new ≡ buffer_of out.old at (tagged tag value.now)) }
 {
@@ -27,7 +32,7 @@ pub fn write_tagged(tag: u8, value: &[u8], out: &mut [u8], at: usize) -> Result<
         let head = [tag, size[0], size[1]];
         let behind = text::put(out, at, &head);
         let end = text::put(out, behind, value);
-        return Ok(end);
+        return (end, Ok(()));
     }
-    Err(Refusal::Room)
+    (at, Err(Refusal::Room))
 }
