@@ -61,7 +61,7 @@ fn assembled(r: u64, k: u64) -> f64
 // remainder, also of an infinity. The sign is the dividend's.
 // Inlined, so that a divisor that a caller writes out is folded: the engine's is 1.
 #[inline]
-fn divided(x: f64, m: f64) -> f64
+pub fn divided(x: f64, m: f64) -> f64
     ensures { result ≡ rem binary64 x m }
 {
     let p = std::num::f64_to_bits_with_nan(x);

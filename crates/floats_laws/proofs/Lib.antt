@@ -39,3 +39,6 @@ pub mod Level
 pub mod Eighths
 pub mod Floors
 pub mod Parts
+pub mod FloorParts
+pub mod Saturated
+pub mod WordHalves

@@ -2,14 +2,16 @@
 use Prim.Native.Nat.{zero, suc, ◌*◌}
 use native.Mathlib.Nat.{mul-pos, zero-mul}
 use native.Mathlib.Omega.{arith}
-use mathlib.Core.Path.{◌≡◌, refl}
+use mathlib.Core.Path.{◌≡◌, refl, ◌∙◌}
 use mathlib.Core.Bool.{true, false, not, false≢true}
 use lib.Dec.{T, ltb→lt, lt→ltb, eqb-suc-zero}
-use lib.Ieee.{Float, nan, inf, fin, Format, up, down, mul, div, unlike, lt, is_nan}
+use lib.Ieee.{Float, nan, inf, fin, Format, up, down, sum, add, sub, neg, mul, div, unlike, lt, eq, is_nan}
+use lib.Ieee.Bits.{is_true}
 use lib.Ieee.Fits.{up_pos}
 use lib.Ieee.Scale.{finite}
 use lib.Ieee.Positive.{positive}
-use Rattle.floats.proofs.Rounded.{round_number}
+use Rattle.floats.proofs.Facts.{eq_self}
+use Rattle.floats.proofs.Rounded.{round_number, sum_number}
 use Rattle.floats_laws.proofs.Rising.{nought}
 
 -- ---- a test `<` that passed
@@ -56,3 +58,11 @@ module _ (f : Format) where
   div_number (fin s m e) (fin true n d) u v = absurd v
   div_number (fin s m e) (fin false zero d) u v = absurd v
   div_number (fin s m e) (fin false (suc n) d) u v = rw (eqb-suc-zero n) (round_number f (unlike s false) (m * up e * down d) (suc n * up d * down e))
+
+-- ---- only a finite number's difference from itself is a number
+pub self_apart : (f : Format) (x : Float) → eq (sub f x x) (sub f x x) ≡ finite x
+unfolding sub add neg is_nan
+self_apart f nan = eq_self nan
+self_apart f (inf true) = eq_self nan
+self_apart f (inf false) = eq_self nan
+self_apart f (fin s m e) = eq_self (sum f s (m * up e * down e) (not s) (m * up e * down e) (down e * down e)) ∙ is_true _ (sum_number f s (m * up e * down e) (not s) (m * up e * down e) (down e * down e))

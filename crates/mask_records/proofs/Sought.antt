@@ -1,23 +1,15 @@
 -- The search for an entry by its value.
-use Prim.Native.Nat.{ℕ, zero, suc, ◌≤◌, ◌<◌}
-use native.Mathlib.Nat.{le_of_suc-le-suc, not-suc-le-zero}
+use Prim.Native.Nat.{ℕ, zero, suc, ◌+◌, ◌-◌, ◌/◌, ◌≤◌, ◌<◌}
+use native.Mathlib.Nat.{le_trans, lt_of_le_of_lt, le_antisymm, le_of_suc-le-suc, not-suc-le-zero}
 use native.Mathlib.Omega.{arith}
 use mathlib.Core.Path.{◌≡◌, refl, sym, ap, ◌∙◌}
-use mathlib.Core.Bool.{true, false}
+use mathlib.Core.Bool.{true, false, cond}
 use mathlib.Core.List.{List, [], ◌∷◌}
-use borrow.Author.Tests.{eq-eqb, ne_eqb, eqb-true, eqb-false, ltb-true, ltb-false}
-use lib.Dec.{eqb, ltb}
-use Rattle.std.specs.Prelude.{Ok, Err, Result}
-use Rattle.std.specs.Ordering.{nat_cmp, ordering_index}
-use Rattle.std.proofs.Common.{Ordering, Less, Equal, Greater}
-use Rattle.std.specs.Cmp.{nat_cmp_is}
-use Rattle.std.specs.Result.{is_ok}
-use Rattle.std.specs.List.Sorted.{IsBinarySearchResult, IsSearchInRange}
-use Rattle.std.proofs.lemmas.List.{get_or_default}
-use Rattle.std.proofs.lemmas.Map.Lookups.{exact_unsigned}
+use borrow.Author.Tests.{eq-eqb, ne_eqb, eqb-true, eqb-false, leb-true, leb-false}
+use lib.Dec.{eqb, leb}
 use lib.ListN.{length, get_or}
 use Rattle.sequences.specs.Pick.{by-case}
-use Rattle.mask_records.specs.Decibels.{entries, among, is_entry}
+use Rattle.mask_records.specs.Decibels.{entries, entry_of, among, is_entry}
 use Rattle.mask_records.proofs.Ruled.{entries-long, never_rises}
 
 -- ---- what `among` says
@@ -32,36 +24,46 @@ unfolding among
 among_none e [] h = refl
 among_none e (x ∷ xs) h = rw (ne_eqb x e (h 0 (omega arith))) (among_none e xs (λ k l. h (suc k) (omega arith)))
 
--- ---- the library's search, in the order in which the table falls
-module _ (e : ℕ) where
-  place : ℕ → ℕ
-  place y = ordering_index (nat_cmp e y)
+-- ---- the loop: every entry from base + size on is below e, and base's is not, unless base is 0
+pub record Sought (e base size : ℕ) : Type 0 where
+  pub some : 1 ≤ size
+  pub inside : base + size ≤ 601
+  pub past : (i : ℕ) → base + size ≤ i → i ≤ 600 → entry_of i < e
+  pub here : 0 < base → e ≤ entry_of base
 
-  place_most : (r : Ordering) → ordering_index r ≤ 2
-  place_most Less = omega arith
-  place_most Equal = omega arith
-  place_most Greater = omega arith
+pub sought_all : (e : ℕ) → Sought e 0 601
+sought_all e = record { some = omega arith; inside = omega arith; past = λ i h l. absurd (omega arith); here = λ h. absurd (omega arith) }
 
-  falling : (a b : ℕ) → b ≤ a → place a ≤ place b
-  unfolding place
-  falling a b h =
-      by-case (ltb e a) (λ p. omega (arith, ap ordering_index (nat_cmp_is e a Less (ltb-true e a p))))
-      (λ n. let m = ltb-false e a n in
-      by-case (eqb e b) (λ p. let q = eqb-true e b p in let i : e ≡ a = omega arith in omega (arith, ap ordering_index (nat_cmp_is e a Equal i), ap ordering_index (nat_cmp_is e b Equal q)))
-      (λ p. let q = eqb-false e b p in let i : b < e = omega arith in omega (arith, place_most (nat_cmp e a), ap ordering_index (nat_cmp_is e b Greater i))))
+pub sought_half : (e base size step : ℕ) → Sought e base size → 1 < size → step ≡ cond (leb e (entry_of (base + size / 2))) (size / 2) 0 → Sought e (base + step) (size - size / 2)
+sought_half e base size step s h p =
+    by-case (leb e (entry_of (base + size / 2)))
+    (λ y.
+    let q : step ≡ size / 2 = rw y at p in
+    record {
+      some = omega arith;
+      inside = omega (arith, s.inside);
+      past = λ i g l. s.past i (omega arith) l;
+      here = λ g. rw q (leb-true _ _ y);
+    })
+    (λ n.
+    let q : step ≡ 0 = rw n at p in
+    record {
+      some = omega arith;
+      inside = omega (arith, s.inside);
+      past = λ i g l. lt_of_le_of_lt (never_rises (base + size / 2) i (omega arith) l) (leb-false _ _ n);
+      here = λ g. let z : base + step ≡ base = omega arith in rw z (s.here (omega arith));
+    })
 
-  pub sought : (r : Result ℕ ℕ) → IsSearchInRange r (length entries) → IsBinarySearchResult (λ y. nat_cmp e y) entries r → is_ok r ≡ is_entry e
-  unfolding place
-  sought (Ok i) h at = sym (among-at e entries i h (sym (exact_unsigned e (get_or entries i 0) (at 0))))
-  sought (Err i) h point =
-      let (before, after) =
-      point
-      (λ j k d l m.
-      falling (get_or entries j d) (get_or entries k d)
-      (rw (get_or_default entries k d 0 m, get_or_default entries j d 0 (omega arith)) (never_rises j k l (omega (arith, entries-long))))) in
-      sym
-      (among_none e entries
-      (λ k l p.
-      let here = nat_cmp_is e (get_or entries k 0) Equal (sym p) in
-      by-case (ltb k i) (λ t. omega (arith, ap ordering_index (here ∙ before k 0 (omega arith) (ltb-true k i t))))
-      (λ f. omega (arith, ap ordering_index (here ∙ after k 0 (ltb-false k i f) l)))))
+pub sought_end : (e base size : ℕ) → Sought e base size → size ≤ 1 → eqb (entry_of base) e ≡ is_entry e
+sought_end e base size s h =
+    by-case (eqb (entry_of base) e)
+    (λ y. y ∙ sym (among-at e entries base (omega (arith, entries-long, s.some, s.inside)) (eqb-true _ _ y)))
+    (λ n. n ∙ sym (among_none e entries (λ k l p. none n k (omega (arith, entries-long)) p)))
+  where
+    none : eqb (entry_of base) e ≡ false → (k : ℕ) → k ≤ 600 → entry_of k ≡ e → ⊥
+    none n k l p =
+        by-case (leb k base)
+        (λ y. let g = leb-true k base y in
+        by-case (eqb k base) (λ u. let u2 : k ≡ base = eqb-true k base u in eqb-false _ _ n (ap entry_of (sym u2) ∙ p))
+        (λ v. eqb-false _ _ n (le_antisymm (le_trans (never_rises k base g (omega (arith, s.some, s.inside))) (omega arith)) (s.here (let w = eqb-false k base v in omega arith)))))
+        (λ z. let g = leb-false k base z in omega (arith, s.past k (omega arith) l))

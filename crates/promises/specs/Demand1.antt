@@ -133,7 +133,7 @@ pub record Demand1 : Type 0 where
   -- and the place that it is told with, in a script that has it at `at`: that of its tag, or the end of the script where the header is cut
   pub field_place : (before : Run) (n at : ℕ) (s : List ℕ) (r : Refusal) → read_of (drop at s) (eqb n 1) ≡ Err r
       → (turn_of before n at s).line ≡ L.Bad n r (pick (eqb (number_of r) 14) (length s) at)
-  -- the engine's answer to a field. `seek`, note input, `reset` and `reserve_trigger` hand back an engine, `elapsed_samples` and `active_count` a number, and no answer beside it: they can't refuse, and nor do their fields.
+  -- the engine's answer to a field. `seek`, note input and `reset` answer nothing, `reserve_trigger`, `elapsed_samples` and `active_count` a number, and none of them a refusal: they can't refuse, and nor do their fields.
   pub step : (before : Run) (f : Field) → reply_number (step_of before f).reply ≡ first_of (tests_of before.engine f)
   -- a whole script: where it stops, with which number and which place, and that it goes on until then
   pub script : (s : List ℕ) → Stops s
